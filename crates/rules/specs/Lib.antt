@@ -1,0 +1,11 @@
+pub mod Numbers
+pub mod Setups
+pub mod Marks
+pub mod Rows
+pub mod Parts
+pub mod Malformed
+pub mod Fit
+pub mod Events
+pub mod Operations
+pub mod Runs
+pub mod Examples
