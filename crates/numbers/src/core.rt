@@ -5,6 +5,7 @@ ghost use Rattle.rules.specs.Numbers.{dist};
 ghost use lib.Dec.{ltb};
 
 pub mod marks;
+pub mod packet;
 pub mod recent;
 
 // How many values the range has.

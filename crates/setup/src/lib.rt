@@ -1,7 +1,7 @@
 // The setup: when its eight numbers are admitted.
 ghost use mathlib.Core.Path.{_≡_};
 ghost use Prim.Native.Nat.{_≤_};
-ghost use Rattle.rules.specs.Setups.{is-window, in-limits, in-ranges, admitted, same-setup};
+ghost use Rattle.rules.specs.Setups.{is-window, in-limits, in-ranges, admitted, same-setup, zero-setup};
 use rules::Setup;
 
 // A setup that is not admitted is refused with 1 wherever a fresh state is asked for, and makes every state malformed.
@@ -27,6 +27,22 @@ pub fn same(s: Setup, t: Setup) -> bool
         & (s.seq == t.seq)
         & (s.sclock == t.sclock)
         & (s.rclock == t.rclock)
+}
+
+// All eight numbers 0: what the state of a refused setup carries.
+pub fn zero() -> Setup
+    ensures { λ r. ⌜ r ≡ zero-setup ⌝ }
+{
+    Setup {
+        window: 0,
+        seqbits: 0,
+        clockbits: 0,
+        life: 0,
+        rate: 0,
+        seq: 0,
+        sclock: 0,
+        rclock: 0,
+    }
 }
 
 fn window_allowed(w: u32) -> bool
