@@ -1,5 +1,5 @@
 -- From a test that was passed to the facts that the work needs: an admitted setup, and a state that is not malformed.
-use mathlib.Core.Path.{_≡_, refl, sym, _∙_, ap, ap₂}
+use mathlib.Core.Path.{_≡_, refl, sym, _∙_, ap, ap₂, subst}
 use mathlib.Core.Bool.{Bool, true, false, cond, not, _||_}
 use mathlib.Core.List.{List, [], _∷_, _++_}
 use Prim.Native.Nat.{ℕ, zero, suc, _+_, _-_, _*_, _%_, _^_, _≤_, _<_, _/_, _∣_}
@@ -7,7 +7,7 @@ use native.Mathlib.Nat.{dvd-mul-right, mod-add-mod, mod-mod-of-dvd}
 use native.Mathlib.Decide.{decLe}
 use native.Mathlib.Omega.{arith}
 use lib.Dec.{leb, eqb}
-use lib.ListN.{length, take, drop, replicate, length-take, length-drop, take-append-drop}
+use lib.ListN.{length, getD, take, drop, replicate, length-take, length-drop, take-append-drop}
 use lib.Pow.{pow-pos, pow-add, pow-mono}
 use borrow.Author.Tests.{leb-true, ltb-true, eqb-true}
 use Rattle.rules.specs.declared.Setup.{Setup}
@@ -20,15 +20,18 @@ use Rattle.rules.specs.declared.DataPacket.{DataPacket}
 use Rattle.rules.specs.declared.AckPacket.{AckPacket}
 use Rattle.rules.specs.declared.DataChannel.{DataChannel}
 use Rattle.rules.specs.declared.AckChannel.{AckChannel}
+use Rattle.rules.specs.declared.Bench.{Bench}
 use Rattle.rules.specs.Numbers.{NS, NC, wrapped}
 use Rattle.rules.specs.Setups.{_also_, is-window, in-limits, in-ranges, admitted, same-setup}
 use Rattle.rules.specs.Marks.{marked}
 use Rattle.rules.specs.Rows.{row}
-use Rattle.rules.specs.Parts.{no-data, no-ack, new-data, new-ack, is-no-data, is-no-ack, Channel, live, data-channel, ack-channel}
-use Rattle.rules.specs.Malformed.{all-from, every, formed-recent, formed-sender, formed-receiver, right-data, right-ack, formed-channel, malformed-sender, malformed-receiver}
-use Rattle.rules.specs.Fit.{FitSetup, FitRecent, FitSender, Within, FitReceiver, FitData, FitAck, FitChannel}
-use Rattle.rules.proofs.Tests.{both, or-case, passes}
+use Rattle.rules.specs.Parts.{no-data, no-ack, new-data, new-ack, bare-data, bare-ack, is-no-data, is-no-ack, Channel, live, data-channel, ack-channel}
+use Rattle.rules.specs.Malformed.{all-from, every, formed-recent, formed-sender, formed-receiver, right-data, right-ack, formed-data, formed-ack, formed-channel, malformed-sender, malformed-receiver, formed-bench, malformed-bench}
+use Rattle.rules.specs.Events.{packet-at}
+use Rattle.rules.specs.Fit.{FitSetup, FitRecent, FitSender, Within, FitReceiver, FitData, FitAck, FitChannel, FitBench}
+use Rattle.rules.proofs.Tests.{both, _and_, or-case, passes}
 use Rattle.rules.proofs.Loops.{all-at}
+use Rattle.rules.proofs.Rows.{length-row}
 
 -- ---- an admitted setup
 -- a window is a power of two, of at most 64
@@ -219,3 +222,56 @@ fit-datas = fit-channel data-channel no-data-is
 
 pub fit-acks : (right : AckPacket → Bool) (c : AckChannel) → length (c .packets) ≡ 32 → formed-channel ack-channel right c ≡ true → FitChannel ack-channel c
 fit-acks = fit-channel ack-channel no-ack-is
+
+-- ---- a bench that is not malformed
+every-so : {A : Type 0} (f g : A → Bool) → ((x : A) → f x ≡ true → g x ≡ true) → (l : List A) → every f l ≡ true → every g l ≡ true
+unfolding every
+every-so f g h [] e = refl
+every-so f g h (x ∷ l) e = let a = both e in h x (a .0) and every-so f g h l (a .1)
+
+channel-right : {H P C : Type 0} (K : Channel H P C) (right : P → Bool) (c : C) → formed-channel K right c ≡ true → every right (live K c) ≡ true
+unfolding formed-channel
+channel-right K right c e = both (both e .0) .1
+
+pub fit-bench : (b : Bench) → length (b .datas .packets) ≡ 32 → length (b .acks .packets) ≡ 32 → malformed-bench wrapped b ≡ false → FitBench b
+unfolding malformed-bench formed-bench formed-data formed-ack
+fit-bench b nd na e =
+    let S = b .sender .setup in
+    let a = both (passes _ e) in
+    let f = fit-setup (limits S (a .0)) in
+    let acks = both (a .1) in let datas = both (acks .0) in let rcv = both (datas .0) in let snd = both (rcv .0) in
+    let sa = both (snd .0) in let sd = both (sa .0) in
+    let er = same-is S (b .receiver .setup) (sd .0) in
+    record {
+      sender = formed-is-fit-sender (b .sender) f (snd .1);
+      receiver = formed-is-fit-receiver (b .receiver) (subst FitSetup er f)
+        (subst (λ (T : Setup). formed-receiver (wrapped T) T (b .receiver) ≡ true) er (rcv .1));
+      datas = fit-datas _ (b .datas) nd (datas .1);
+      acks = fit-acks _ (b .acks) na (acks .1);
+      same-receiver = sym er;
+      same-datas = sym (same-is S (b .datas .setup) (sd .1));
+      same-acks = sym (same-is S (b .acks .setup) (sa .1));
+      right-datas = every-so _ _ (λ p h. both h .0) _ (channel-right data-channel _ (b .datas) (datas .1));
+      right-acks = every-so _ _ (λ p h. both h .0) _ (channel-right ack-channel _ (b .acks) (acks .1));
+    }
+
+-- each packet that a channel holds is in range
+every-at : {A : Type 0} (f : A → Bool) (z : A) (l : List A) (j : ℕ) → every f l ≡ true → j < length l → f (getD l j z) ≡ true
+unfolding every
+every-at f z [] j e lt = absurd (omega arith)
+every-at f z (x ∷ l) zero e lt = both e .0
+every-at f z (x ∷ l) (suc j) e lt = every-at f z l j (both e .1) (omega arith)
+
+full : {H P C : Type 0} (K : Channel H P C) (c : C) → FitChannel K c → length (live K c) ≡ K .count c
+full K c f =
+    let l = length-take (K .count c) (K .packets c) in
+    let n : length (K .packets c) ≡ 32 = ap length (f .rest) ∙ length-row (K .new (K .nothing)) (live K c) (omega (arith, l, f .few)) in
+    omega (arith, l, n, f .few)
+
+pub data-at : {b : Bench} → FitBench b → (j : ℕ) → j < b .datas .count → FitData (b .sender .setup) (bare-data (packet-at data-channel j (b .datas)))
+data-at {b} f j lt =
+    fit-data (b .sender .setup) _ (every-at _ (new-data no-data) (live data-channel (b .datas)) j (f .right-datas) (omega (arith, full data-channel (b .datas) (f .datas))))
+
+pub ack-at : {b : Bench} → FitBench b → (j : ℕ) → j < b .acks .count → FitAck (b .sender .setup) (bare-ack (packet-at ack-channel j (b .acks)))
+ack-at {b} f j lt =
+    fit-ack (b .sender .setup) _ (every-at _ (new-ack no-ack) (live ack-channel (b .acks)) j (f .right-acks) (omega (arith, full ack-channel (b .acks) (f .acks))))

@@ -278,11 +278,11 @@ module _ (A : Arith) (S : Setup) where
     marks = r .marks;
   }
 
--- ---- the bench: an event of one part
+-- ---- the bench: an event of one part. Only the receiver delivers units
 abbrev pub on-sender : Bench → Out Sender → Out Bench
 on-sender b o = record {
   answer = o .answer;
-  units = o .units;
+  units = [];
   state = record { sender = o .state; receiver = b .receiver; datas = b .datas; acks = b .acks };
 }
 
@@ -296,14 +296,14 @@ on-receiver b o = record {
 abbrev pub on-datas : Bench → Out DataChannel → Out Bench
 on-datas b o = record {
   answer = o .answer;
-  units = o .units;
+  units = [];
   state = record { sender = b .sender; receiver = b .receiver; datas = o .state; acks = b .acks };
 }
 
 abbrev pub on-acks : Bench → Out AckChannel → Out Bench
 on-acks b o = record {
   answer = o .answer;
-  units = o .units;
+  units = [];
   state = record { sender = b .sender; receiver = b .receiver; datas = b .datas; acks = o .state };
 }
 

@@ -8,10 +8,12 @@ use Rattle.rules.specs.declared.Sender.{Sender}
 use Rattle.rules.specs.declared.Receiver.{Receiver}
 use Rattle.rules.specs.declared.BareData.{BareData}
 use Rattle.rules.specs.declared.BareAck.{BareAck}
-use Rattle.rules.specs.Numbers.{NS, NC}
+use Rattle.rules.specs.Numbers.{NS, NC, wrapped}
 use Rattle.rules.specs.Marks.{marked}
 use Rattle.rules.specs.Rows.{row}
-use Rattle.rules.specs.Parts.{Channel, live}
+use Rattle.rules.specs.declared.Bench.{Bench}
+use Rattle.rules.specs.Parts.{Channel, live, data-channel, ack-channel}
+use Rattle.rules.specs.Malformed.{every, right-data, right-ack}
 
 pub record FitSetup (S : Setup) : Type 0 where
   pub some : 1 ≤ S .window
@@ -59,3 +61,15 @@ pub record FitAck (S : Setup) (p : BareAck) : Type 0 where
 pub record FitChannel {H P C : Type 0} (K : Channel H P C) (c : C) : Type 0 where
   pub few : K .count c ≤ 32
   pub rest : K .packets c ≡ row (K .new (K .nothing)) (live K c)
+
+-- the four parts, with one setup, and packets in their ranges
+pub record FitBench (b : Bench) : Type 0 where
+  pub sender : FitSender (b .sender)
+  pub receiver : FitReceiver (b .receiver)
+  pub datas : FitChannel data-channel (b .datas)
+  pub acks : FitChannel ack-channel (b .acks)
+  pub same-receiver : b .receiver .setup ≡ b .sender .setup
+  pub same-datas : b .datas .setup ≡ b .sender .setup
+  pub same-acks : b .acks .setup ≡ b .sender .setup
+  pub right-datas : every (λ p. right-data (wrapped (b .sender .setup)) (b .sender .setup) (data-channel .bare p)) (live data-channel (b .datas)) ≡ true
+  pub right-acks : every (λ p. right-ack (wrapped (b .sender .setup)) (b .sender .setup) (ack-channel .bare p)) (live ack-channel (b .acks)) ≡ true
