@@ -4,6 +4,7 @@ pub mod Marks
 pub mod Rows
 pub mod Parts
 pub mod Malformed
+pub mod Places
 pub mod Fit
 pub mod Events
 pub mod Operations
