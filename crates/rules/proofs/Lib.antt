@@ -5,4 +5,5 @@ pub mod Wrap
 pub mod Marks
 pub mod Fits
 pub mod Channels
+pub mod Turns
 pub mod Session

@@ -8,5 +8,6 @@ pub mod Places
 pub mod Fit
 pub mod Events
 pub mod Operations
+pub mod One
 pub mod Runs
 pub mod Examples

@@ -12,7 +12,7 @@ returns : tie.Need-returns
 returns c = rw (sym (c .before .malformed .ensures) ∙ c .if1 .taken)
 
 drop-requires : tie.Need-drop-requires
-drop-requires c κs = sound-datas (c .before .before .args .c) _ (c .before .before .good .0) (sym (c .before .malformed .ensures) ∙ c .if1 .left) .1
+drop-requires c κs = sound-datas _ _ (c .before .before .good .0) (sym (c .before .malformed .ensures) ∙ c .if1 .left) .1
 
 returns-2 : tie.Need-returns-2
 returns-2 c = rw (sym (c .before .before .malformed .ensures) ∙ c .before .if1 .left) (c .drop .ensures)

@@ -15,11 +15,11 @@ returns : tie.Need-returns
 returns c = rw (sym (c .before .before .malformed .ensures) ∙ c .before .if1 .taken, c .nothing .ensures)
 
 take-requires : tie.Need-take-requires
-take-requires c κs = sound-datas (c .before .before .args .c) _ (c .before .before .good .0) (sym (c .before .malformed .ensures) ∙ c .if1 .left) .1
+take-requires c κs = sound-datas _ _ (c .before .before .good .0) (sym (c .before .malformed .ensures) ∙ c .if1 .left) .1
 
 returns-2 : tie.Need-returns-2
 returns-2 c = rw (sym (c .before .before .malformed .ensures) ∙ c .before .if1 .left) (c .take .ensures)
 
 pub take-spec : {M : Type 1} → statement M
-take-spec = 
+take-spec =
     tie.close (tie.spec malformed-requires nothing-requires returns take-requires returns-2)

@@ -26,8 +26,9 @@ add-d c = search needs
 
 returns-2 : tie.Need-returns-2
 returns-2 c =
+    let f = c .before .before .pre in
     let h = c .before .if1 .left in
-    rw (c .with-age .ensures, lt-leb _ _ h, packets-added data-channel _ (c .before .before .pre) _ h, length-added data-channel _ (c .before .before .pre))
+    rw (c .with-age .ensures, lt-leb _ _ h, packets-added data-channel _ f _ h, length-added data-channel _ f)
 
 pub add-spec : {M : Type 1} → statement M
 add-spec =

@@ -35,9 +35,10 @@ add-d c = search needs
 
 returns-3 : tie.Need-returns-3
 returns-3 c =
+    let f = c .before .before .before .pre in
     let h = c .before .before .if1 .left in
     let k = c .before .if2 .left in
-    rw (lt-leb _ _ h, lt-leb _ _ k, packets-added data-channel _ (c .before .before .before .pre) _ k, found data-channel _ (c .before .before .before .pre) _ h, length-added data-channel _ (c .before .before .before .pre))
+    rw (lt-leb _ _ h, lt-leb _ _ k, packets-added data-channel _ f _ k, found data-channel _ f _ h, length-added data-channel _ f)
 
 pub duplicate-spec : {M : Type 1} → statement M
 duplicate-spec =

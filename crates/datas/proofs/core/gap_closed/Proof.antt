@@ -1,25 +1,21 @@
 -- `gap_closed` meets its contract. The loop's invariant: the places before i are the result's, and those from i on are as they were.
 use borrow.Author.Needs.{needs}
-use mathlib.Core.Path.{_≡_, refl, ap, sym, _∙_}
-use Prim.Native.Nat.{ℕ, _-_, _≤_}
+use mathlib.Core.Path.{ap, _∙_}
+use Prim.Native.Nat.{_-_}
 use native.Mathlib.Omega.{arith}
-use lib.ListN.{length, take, drop, length-set}
-use Rattle.rules.specs.Rows.{closed}
 use Rattle.rules.specs.Parts.{new-data, no-data}
-use Rattle.rules.proofs.Rows.{passed-more, left-more, left-at, passed-all, length-closed, closed-before, closed-at, closed-last}
+use Rattle.rules.proofs.Turns.{Closing, closing-start, closing-turn, closing-end}
 use Rattle.datas.proofs.core.gap_closed.Statement.{statement}
 use Rattle.datas.proofs.core.gap_closed.Tie as tie
 
 abbrev Inv-loop : tie.InvT-loop
-Inv-loop j out₀ i₀ out i =
-    (j ≤ i) × (i ≤ 31) × (length out ≡ length out₀) × (take i out ≡ take i (closed (new-data no-data) out₀ j)) × (drop i out ≡ drop i out₀)
+Inv-loop j out₀ i₀ out i = Closing (new-data no-data) out₀ j out i
 
 abbrev μ-loop : tie.MeasureT-loop
 μ-loop j out₀ i₀ out i = 31 - i
 
 loop-holds : tie.Need-loop-holds Inv-loop μ-loop
-loop-holds c =
-    (omega arith, omega arith, refl, closed-before (new-data no-data) (c .args .ps) (c .args .j) (omega arith), refl)
+loop-holds c = closing-start _ _ _ (c .pre) (omega arith)
 
 add-next : tie.Need-add-next Inv-loop μ-loop
 add-next c = omega arith
@@ -43,17 +39,7 @@ loop-less : tie.Need-loop-less Inv-loop μ-loop
 loop-less c = omega arith
 
 loop-again : tie.Need-loop-again Inv-loop μ-loop
-loop-again c =
-    let z = new-data no-data in
-    let ps = c .before .before .before .args .ps in
-    let j = c .before .before .before .args .j in
-    let l = c .before .before .loop in
-    let n : length ps ≡ 32 = omega arith in
-    let more = closed-at z ps j (omega arith) (l .i) (omega arith) (omega arith) in
-    (omega arith, omega arith, length-set (l .out) (l .i) _ ∙ l .inv .2,
-    passed-more z (l .out) (closed z ps j) (l .i) _ (omega arith) (omega (arith, length-closed z ps j (omega arith))) (l .inv .3)
-    (left-at z (l .out) ps (l .i) 1 (l .inv .4) ∙ sym more),
-    left-more z (l .out) ps (l .i) _ (l .inv .4))
+loop-again c = closing-turn _ (c .before .before .before .args .ps) (c .before .before .before .args .j) (c .before .before .before .pre) (omega arith) _ _ (c .before .before .loop .inv) (c .before .loop-test .taken)
 
 nothing-requires : tie.Need-nothing-requires Inv-loop μ-loop
 nothing-requires c κs = search needs
@@ -66,15 +52,8 @@ array-set-from-out-2 c = search needs
 
 returns : tie.Need-returns Inv-loop μ-loop
 returns c =
-    let z = new-data no-data in
-    let ps = c .before .before .before .before .args .ps in
-    let j = c .before .before .before .before .args .j in
-    let l = c .before .before .before .loop in
-    let n : length ps ≡ 32 = omega arith in
-    let e : l .i ≡ 31 = omega arith in
-    passed-all z (l .out) (closed z ps j) 31 _ (omega arith) (omega (arith, length-closed z ps j (omega arith)))
-    (rw e at (l .inv .3))
-    (c .with-age .ensures ∙ ap new-data (c .before .nothing .ensures) ∙ sym (closed-last z ps j (omega arith) 31 (omega arith)))
+    closing-end _ (c .before .before .before .before .args .ps) (c .before .before .before .before .args .j) (c .before .before .before .before .pre) (omega arith) _ _ (c .before .before .before .loop .inv) (c .before .before .loop-test .left)
+    (c .with-age .ensures ∙ ap new-data (c .before .nothing .ensures))
 
 pub gap-closed-spec : {M : Type 1} → statement M
 gap-closed-spec =

@@ -1,20 +1,17 @@
 -- `older` meets its contract. The loop's invariant: `out` holds what a tick leaves of the first i packets, and k is how many those are.
 use borrow.Author.Needs.{needs}
-use mathlib.Core.Path.{_≡_, refl, ap, _∙_}
+use mathlib.Core.Path.{_≡_, ap, _∙_}
 use mathlib.Core.Logic.{⊎-elim}
-use Prim.Native.Nat.{_+_, _-_, _≤_, _<_}
+use Prim.Native.Nat.{_-_}
 use native.Mathlib.Omega.{arith}
-use lib.ListN.{length, take}
-use Rattle.rules.specs.Rows.{row, aged}
-use Rattle.rules.specs.Parts.{data-channel, new-data, no-data}
-use Rattle.rules.proofs.Rows.{turn-kept, turn-gone}
+use lib.ListN.{length}
+use Rattle.rules.specs.Parts.{data-channel, new-data}
+use Rattle.rules.proofs.Turns.{Ticking, ticking-start, ticking-kept, ticking-gone, ticking-end}
 use Rattle.datas.proofs.core.older.Statement.{statement}
 use Rattle.datas.proofs.core.older.Tie as tie
 
 abbrev Inv-loop : tie.InvT-loop
-Inv-loop n life ps out₀ k₀ i₀ out k i =
-    let left = aged (data-channel .age) (data-channel .older) life (take i ps) in
-    (i ≤ n) × (k ≤ i) × (out ≡ row (new-data no-data) left) × (k ≡ length left)
+Inv-loop n life ps out₀ k₀ i₀ out k i = Ticking data-channel life ps n out k i
 
 abbrev μ-loop : tie.MeasureT-loop
 μ-loop n life ps out₀ k₀ i₀ out k i = n - i
@@ -26,8 +23,9 @@ with-age-requires : tie.Need-with-age-requires Inv-loop μ-loop
 with-age-requires c κs = search needs
 
 loop-holds : tie.Need-loop-holds Inv-loop μ-loop
-unfolding row
-loop-holds c = (omega arith, omega arith, rw (c .with-age .ensures, c .before .nothing .ensures), refl)
+loop-holds c =
+    let a = c .before .before .args in
+    ticking-start data-channel (a .life) (a .t1) (a .n) (c .with-age .ensures ∙ ap new-data (c .before .nothing .ensures))
 
 cast-from : tie.Need-cast-from Inv-loop μ-loop
 cast-from c = search needs
@@ -61,22 +59,20 @@ loop-less c = search needs
 
 loop-again : tie.Need-loop-again Inv-loop μ-loop
 loop-again c =
-    let ps = c .before .before .before .before .before .before .before .args .t1 in
-    let L = c .before .before .before .before .before .before .before .args .life in
+    let a = c .before .before .before .before .before .before .before .args in
     let l = c .before .before .before .before .loop in
-    let few : l .i < length ps = omega arith in
-    let low : l .i < 32 = omega arith in
-    let next : l .i + 1 ≤ c .before .before .before .before .before .before .before .args .n = omega arith in
+    let few = c .before .before .before .before .before .before .before .pre in
+    let more = c .before .before .before .loop-test .taken in
+    let n : length (a .t1) ≡ 32 = omega arith in
     ⊎-elim
-    (λ w. let r = turn-kept (new-data no-data) (data-channel .age) (data-channel .older) L ps (l .i) few (l .k) (l .out) (l .inv .1) low (l .inv .2) (l .inv .3) (w .0 .taken) (w .1 .ensures) (w .2) (w .3) in (next, r .0, r .1, r .2))
-    (λ w. let r = turn-gone (new-data no-data) (data-channel .age) (data-channel .older) L ps (l .i) few (l .k) (l .out) (l .inv .1) low (l .inv .2) (l .inv .3) (w .0 .left) (w .1) (w .2) in (next, r .0, r .1, r .2))
+    (λ w. ticking-kept data-channel (a .life) (a .t1) (a .n) few n (l .out) (l .k) (l .i) (l .inv) more (w .0 .taken) (w .1 .ensures) (w .2) (w .3))
+    (λ w. ticking-gone data-channel (a .life) (a .t1) (a .n) few n (l .out) (l .k) (l .i) (l .inv) more (w .0 .left) (w .1) (w .2))
     (c .if1 .came)
 
 returns : tie.Need-returns Inv-loop μ-loop
 returns c =
-    let l = c .before .loop in
-    let e : l .i ≡ c .before .before .before .before .args .n = omega arith in
-    rw (l .inv .2, l .inv .3, e)
+    let e = ticking-end data-channel _ (c .before .before .before .before .args .t1) _ (c .before .before .before .before .pre) (omega arith) _ _ _ (c .before .loop .inv) (c .loop-test .left) in
+    rw (e .0, e .1)
 
 pub older-spec : {M : Type 1} → statement M
 older-spec =

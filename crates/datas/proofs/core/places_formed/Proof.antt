@@ -1,29 +1,22 @@
 -- `places_formed` meets its contract. The loop's invariant: the test of every place is the test of the places from i on.
 use borrow.Author.Needs.{needs}
-use borrow.Author.Tests.{not-true, not-false}
-use mathlib.Core.Path.{_≡_, refl, sym, _∙_}
-use Prim.Native.Nat.{ℕ, _-_, _≤_}
+use Prim.Native.Nat.{_-_}
 use native.Mathlib.Omega.{arith}
-use lib.ListN.{getD}
 use Rattle.rules.specs.Numbers.{wrapped}
-use Rattle.rules.specs.Parts.{data-channel, no-data}
-use Rattle.rules.specs.Malformed.{all-from, formed-data}
-use Rattle.rules.specs.Places.{right-place, right-places}
-use Rattle.rules.proofs.Loops.{all-more, all-stop, all-end}
+use Rattle.rules.specs.Parts.{data-channel}
+use Rattle.rules.specs.Malformed.{formed-data}
+use Rattle.rules.proofs.Turns.{Testing, testing-start, testing-stop, testing-turn, testing-end}
 use Rattle.datas.proofs.core.places_formed.Statement.{statement}
 use Rattle.datas.proofs.core.places_formed.Tie as tie
 
 abbrev Inv-loop : tie.InvT-loop
-Inv-loop s n ps i₀ i =
-    let right = formed-data (wrapped s) s in
-    (i ≤ 32) × (right-places data-channel right n ps ≡ all-from (λ (k : ℕ). right-place data-channel right n k (getD ps k (data-channel .new no-data))) i (32 - i))
+Inv-loop s n ps i₀ i = Testing data-channel (formed-data (wrapped s) s) n ps i
 
 abbrev μ-loop : tie.MeasureT-loop
 μ-loop s n ps i₀ i = 32 - i
 
 loop-holds : tie.Need-loop-holds Inv-loop μ-loop
-unfolding right-places
-loop-holds c = (omega arith, refl)
+loop-holds c = testing-start data-channel _ _ _
 
 cast-at : tie.Need-cast-at Inv-loop μ-loop
 cast-at c = omega arith
@@ -38,9 +31,7 @@ place-formed-requires : tie.Need-place-formed-requires Inv-loop μ-loop
 place-formed-requires c κs = search needs
 
 returns : tie.Need-returns Inv-loop μ-loop
-returns c =
-    let l = c .before .before .before .before .loop in
-    sym (l .inv .1 ∙ all-stop _ 32 (l .i) (c .before .before .before .loop-test .taken) (sym (c .before .place-formed .ensures) ∙ not-true _ (c .if1 .taken)))
+returns c = testing-stop data-channel _ _ _ (c .before .before .before .before .loop .i) (c .before .before .before .before .loop .inv) (c .before .before .before .loop-test .taken) (c .before .place-formed .ensures) (c .if1 .taken)
 
 add-i : tie.Need-add-i Inv-loop μ-loop
 add-i c = omega arith
@@ -49,13 +40,10 @@ loop-less : tie.Need-loop-less Inv-loop μ-loop
 loop-less c = omega arith
 
 loop-again : tie.Need-loop-again Inv-loop μ-loop
-loop-again c =
-    let l = c .before .before .before .before .loop in
-    (omega arith,
-    l .inv .1 ∙ all-more _ 32 (l .i) (c .before .before .before .loop-test .taken) (sym (c .before .place-formed .ensures) ∙ not-false _ (c .if1 .left)))
+loop-again c = testing-turn data-channel _ _ _ (c .before .before .before .before .loop .i) (c .before .before .before .before .loop .inv) (c .before .before .before .loop-test .taken) (c .before .place-formed .ensures) (c .if1 .left)
 
 returns-2 : tie.Need-returns-2 Inv-loop μ-loop
-returns-2 c = let l = c .before .loop in sym (l .inv .1 ∙ all-end _ 32 (l .i) (c .loop-test .left))
+returns-2 c = testing-end data-channel _ _ _ (c .before .loop .i) (c .before .loop .inv) (c .loop-test .left)
 
 pub places-formed-spec : {M : Type 1} → statement M
 places-formed-spec =
