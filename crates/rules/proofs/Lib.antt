@@ -4,4 +4,6 @@ pub mod Rows
 pub mod Wrap
 pub mod Marks
 pub mod Fits
+pub mod Channels
+pub mod Turns
 pub mod Session
