@@ -4,4 +4,5 @@ pub mod Rows
 pub mod Wrap
 pub mod Marks
 pub mod Fits
+pub mod Ends
 pub mod Session

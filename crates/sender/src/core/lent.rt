@@ -1,7 +1,7 @@
 // The sender's work: its numbers by value, as a head, and its slots lent. A run that keeps the slots in one place calls this.
 ghost use mathlib.Core.Path.{_≡_};
 ghost use mathlib.Core.List.{[]};
-ghost use Prim.Native.Nat.{ℕ, _≤_, _<_};
+ghost use Prim.Native.Nat.{_≤_, max};
 ghost use Rattle.rules.specs.Numbers.{wrapped};
 ghost use Rattle.rules.specs.Fit.{FitSender, FitAck};
 ghost use Rattle.rules.specs.Events.{accepting, sending, freed, heard, hearing, ticked-sender};
@@ -110,9 +110,7 @@ fn widened(h: SenderHead, p: BareAck) -> SenderHead
     ensures { λ r. ⌜ r ≡ head-of (heard (wrapped (h .setup)) (h .setup) p (sender-of h []) 0) ⌝ }
 {
     let mut next = h;
-    if h.granted < p.window {
-        next.granted = p.window;
-    }
+    next.granted = larger(h.granted, p.window);
     let recent = Recent {
         held: true,
         stamp: p.stamp,
@@ -120,6 +118,16 @@ fn widened(h: SenderHead, p: BareAck) -> SenderHead
     };
     next.recent = recent;
     next
+}
+
+fn larger(a: u32, b: u32) -> u32
+    ensures { λ r. ⌜ r ≡ max a b ⌝ }
+{
+    if a < b {
+        b
+    } else {
+        a
+    }
 }
 
 // An acknowledgement of o units: una moves by o, and the window becomes the packet's.

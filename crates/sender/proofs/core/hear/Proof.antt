@@ -1,0 +1,18 @@
+use borrow.Author.Needs.{needs}
+use Rattle.sender.proofs.core.hear.Statement.{statement}
+use Rattle.sender.proofs.core.hear.Tie as tie
+
+head-requires : tie.Need-head-requires
+head-requires c κs = search needs
+
+hear-requires : tie.Need-hear-requires
+hear-requires c κs = rw (c .before .head .ensures) (c .before .before .before .pre)
+
+whole-requires : tie.Need-whole-requires
+whole-requires c κs = search needs
+
+returns : tie.Need-returns
+returns c = rw (c .whole .ensures, c .before .before .hear .ensures .gives, c .before .before .hear .ensures .slots, c .before .before .before .before .head .ensures)
+
+pub hear-spec : {M : Type 1} → statement M
+hear-spec = tie.close (tie.spec head-requires hear-requires whole-requires returns)
