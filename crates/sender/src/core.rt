@@ -1,6 +1,6 @@
 // The sender's events on a sender that is not malformed, by value, and the test of whether it is. The work is in `lent`.
 ghost use mathlib.Core.Path.{_≡_};
-ghost use Prim.Native.Nat.{ℕ, _-_, _≤_};
+ghost use Prim.Native.Nat.{_-_, _≤_};
 ghost use Rattle.rules.specs.Numbers.{wrapped};
 ghost use Rattle.rules.specs.Parts.{fresh-sender};
 ghost use Rattle.rules.specs.Malformed.{all-from, empty-slot, empty-ahead, formed-sender};

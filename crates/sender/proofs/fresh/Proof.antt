@@ -1,3 +1,4 @@
+-- `fresh` meets its contract: each return is one case of the rule.
 use borrow.Author.Needs.{needs}
 use Rattle.sender.proofs.fresh.Statement.{statement}
 use Rattle.sender.proofs.fresh.Tie as tie

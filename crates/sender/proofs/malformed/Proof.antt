@@ -1,3 +1,4 @@
+-- `malformed` meets its contract: the sender is tested only where its setup is admitted.
 use mathlib.Core.Path.{sym, _∙_}
 use borrow.Author.Tests.{not-true, not-false}
 use Rattle.rules.specs.Setups.{_also_}
@@ -12,14 +13,14 @@ admitted-requires c κs = search needs
 
 returns : tie.Need-returns
 unfolding malformed-sender _also_
-returns c = rw (← c .before .admitted .ensures, not-true (c .before .admitted .result) (c .if1 .taken))
+returns c = let a = c .before .admitted in rw (← a .ensures, not-true (a .result) (c .if1 .taken))
 
 formed-requires : tie.Need-formed-requires
 formed-requires c κs = fit-setup (limits _ (sym (c .before .admitted .ensures) ∙ not-false _ (c .if1 .left)))
 
 returns-2 : tie.Need-returns-2
 unfolding malformed-sender _also_
-returns-2 c = rw (← c .formed .ensures, ← c .before .before .admitted .ensures, not-false (c .before .before .admitted .result) (c .before .if1 .left))
+returns-2 c = let a = c .before .before .admitted in rw (← c .formed .ensures, ← a .ensures, not-false (a .result) (c .before .if1 .left))
 
 pub malformed-spec : {M : Type 1} → statement M
 malformed-spec = tie.close (tie.spec admitted-requires returns formed-requires returns-2)

@@ -1,3 +1,4 @@
+-- `send` meets its contract: 2 where the sender is malformed, else what the event gives.
 use mathlib.Core.Path.{sym, _∙_}
 use Rattle.rules.proofs.Fits.{fit-sender}
 use borrow.Author.Needs.{needs}

@@ -123,11 +123,7 @@ fn widened(h: SenderHead, p: BareAck) -> SenderHead
 fn larger(a: u32, b: u32) -> u32
     ensures { λ r. ⌜ r ≡ max a b ⌝ }
 {
-    if a < b {
-        b
-    } else {
-        a
-    }
+    if a < b { b } else { a }
 }
 
 // An acknowledgement of o units: una moves by o, and the window becomes the packet's.

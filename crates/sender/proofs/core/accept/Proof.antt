@@ -1,3 +1,4 @@
+-- `accept` meets its contract: the lent work's head and slots, put together, are the sender that the rule leaves.
 use borrow.Author.Needs.{needs}
 use Rattle.sender.proofs.core.accept.Statement.{statement}
 use Rattle.sender.proofs.core.accept.Tie as tie

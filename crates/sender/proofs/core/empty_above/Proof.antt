@@ -1,3 +1,5 @@
+-- `empty_above` meets its contract. The loop's invariant: the slots from i on give the whole answer.
+-- The measure is how many are left.
 use mathlib.Core.Path.{_≡_, refl, sym, _∙_}
 use Prim.Native.Nat.{_-_}
 use native.Mathlib.Omega.{arith}
@@ -23,7 +25,7 @@ array-read-if1 : tie.Need-array-read-if1 Inv-loop μ-loop
 array-read-if1 c = omega arith
 
 returns : tie.Need-returns Inv-loop μ-loop
-returns c = 
+returns c =
     let a = c .before .before .before .args in let l = c .before .before .loop in
     sym (l .inv ∙ all-stop (empty-slot (a .t1)) 64 (l .i) (omega arith) (ne-eqb _ 0 (c .if1 .taken)))
 
@@ -34,12 +36,12 @@ loop-less : tie.Need-loop-less Inv-loop μ-loop
 loop-less c = omega arith
 
 loop-again : tie.Need-loop-again Inv-loop μ-loop
-loop-again c = 
+loop-again c =
     let a = c .before .before .before .args in let l = c .before .before .loop in
     l .inv ∙ all-more (empty-slot (a .t1)) 64 (l .i) (omega arith) (eq-eqb _ 0 (c .if1 .left))
 
 returns-2 : tie.Need-returns-2 Inv-loop μ-loop
-returns-2 c = 
+returns-2 c =
     let a = c .before .before .args in let l = c .before .loop in
     sym (l .inv ∙ all-end (empty-slot (a .t1)) 64 (l .i) (omega arith))
 

@@ -1,3 +1,5 @@
+-- `empty_ahead` meets its contract. The loop's invariant: the numbers from d on give the whole answer.
+-- The measure is how many are left.
 use mathlib.Core.Path.{_≡_, refl, sym, _∙_}
 use Prim.Native.Nat.{_-_}
 use native.Mathlib.Omega.{arith}
@@ -29,7 +31,7 @@ array-read-if1 : tie.Need-array-read-if1 Inv-loop μ-loop
 array-read-if1 c = omega arith
 
 returns : tie.Need-returns Inv-loop μ-loop
-returns c = 
+returns c =
     let a = c .before .before .before .before .args in let l = c .before .before .before .loop in
     sym (l .inv ∙ all-stop (empty-ahead (a .window) (a .t1) (a .q)) (a .window) (l .d) (omega arith)
     (rw (← c .before .slot-ahead .ensures .0) (ne-eqb _ 0 (c .if1 .taken))))
@@ -41,13 +43,13 @@ loop-less : tie.Need-loop-less Inv-loop μ-loop
 loop-less c = omega arith
 
 loop-again : tie.Need-loop-again Inv-loop μ-loop
-loop-again c = 
+loop-again c =
     let a = c .before .before .before .before .args in let l = c .before .before .before .loop in
     l .inv ∙ all-more (empty-ahead (a .window) (a .t1) (a .q)) (a .window) (l .d) (omega arith)
     (rw (← c .before .slot-ahead .ensures .0) (eq-eqb _ 0 (c .if1 .left)))
 
 returns-2 : tie.Need-returns-2 Inv-loop μ-loop
-returns-2 c = 
+returns-2 c =
     let a = c .before .before .args in let l = c .before .loop in
     sym (l .inv ∙ all-end (empty-ahead (a .window) (a .t1) (a .q)) (a .window) (l .d) (omega arith))
 

@@ -1,3 +1,4 @@
+-- `formed` meets its contract: the test is the definition, field by field.
 use Rattle.rules.specs.Setups.{_also_}
 use Rattle.rules.specs.Malformed.{formed-sender}
 use borrow.Author.Needs.{needs}

@@ -1,3 +1,4 @@
+-- `send` meets its contract: the lent work gives the packet, and the sender stays as it was.
 use Rattle.sender.proofs.Cases.{sending-keeps}
 use borrow.Author.Needs.{needs}
 use Rattle.sender.proofs.core.send.Statement.{statement}

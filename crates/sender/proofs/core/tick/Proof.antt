@@ -1,3 +1,4 @@
+-- `tick` meets its contract: the ticked head with the slots as they were.
 use Rattle.sender.proofs.Cases.{fit-head}
 use borrow.Author.Needs.{needs}
 use Rattle.sender.proofs.core.tick.Statement.{statement}

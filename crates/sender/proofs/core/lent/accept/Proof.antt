@@ -1,3 +1,4 @@
+-- `accept` meets its contract: each return is one case of the rule, and the slot is that of una + outstanding.
 use mathlib.Core.Path.{refl}
 use native.Mathlib.Numerals.{add-one}
 use borrow.Author.Tests.{le-leb, lt-leb}
@@ -33,7 +34,10 @@ add-next-2 : tie.Need-add-next-2
 add-next-2 c = search needs
 
 returns-3 : tie.Need-returns-3
-returns-3 c = rw (lt-leb _ _ (c .before .before .before .before .before .before .if1 .left), lt-leb _ _ (c .before .before .before .before .if2 .left), c .before .before .slot .ensures .0, c .before .before .before .moved .ensures .0, add-one, add-one) (record { gives = refl; slots = refl })
+returns-3 c =
+    let h = c .before .before .before .before .before .before .before .before .args .h in
+    rw (lt-leb _ _ (c .before .before .before .before .before .before .if1 .left), lt-leb _ _ (c .before .before .before .before .if2 .left), c .before .before .slot .ensures .0, c .before .before .before .moved .ensures .0, add-one (h .outstanding), add-one (h .accepted))
+    (record { gives = refl; slots = refl })
 
 pub accept-spec : {M : Type 1} → statement M
 accept-spec =

@@ -1,3 +1,5 @@
+-- `free` meets its contract. The loop's invariant: what is left to clear, from q on, gives the whole answer.
+-- The measure is how many slots are left.
 use mathlib.Core.Path.{_≡_, refl, sym, _∙_}
 use native.Mathlib.Omega.{arith}
 use Rattle.rules.specs.Events.{freed}

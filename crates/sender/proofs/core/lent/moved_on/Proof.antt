@@ -1,3 +1,4 @@
+-- `moved_on` meets its contract: the rule at an o that is not 0.
 use native.Mathlib.Omega.{arith}
 use borrow.Author.Tests.{ne-eqb}
 use borrow.Author.Needs.{needs}

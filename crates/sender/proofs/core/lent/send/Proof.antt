@@ -1,3 +1,4 @@
+-- `send` meets its contract: 4 is the rule's one refusal, and the packet carries una + k and what its slot holds.
 use borrow.Author.Tests.{le-leb, lt-leb}
 use borrow.Author.Needs.{needs}
 use Rattle.sender.proofs.core.lent.send.Statement.{statement}

@@ -1,3 +1,4 @@
+-- `widened` meets its contract: the rule at o = 0, with the larger window that `larger` gives.
 use borrow.Author.Needs.{needs}
 use Rattle.sender.proofs.core.lent.widened.Statement.{statement}
 use Rattle.sender.proofs.core.lent.widened.Tie as tie
