@@ -13,7 +13,9 @@ whole-requires : tie.Need-whole-requires
 whole-requires c κs = search needs
 
 returns : tie.Need-returns
-returns c = rw (c .whole .ensures, c .before .before .accept .ensures .gives, c .before .before .accept .ensures .slots, c .before .before .before .before .head .ensures)
+returns c =
+    let left = c .before .before .accept .ensures in
+    rw (c .whole .ensures, left .gives, left .slots, c .before .before .before .before .head .ensures)
 
 pub accept-spec : {M : Type 1} → statement M
 accept-spec = tie.close (tie.spec head-requires accept-requires whole-requires returns)

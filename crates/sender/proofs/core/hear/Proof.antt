@@ -13,7 +13,9 @@ whole-requires : tie.Need-whole-requires
 whole-requires c κs = search needs
 
 returns : tie.Need-returns
-returns c = rw (c .whole .ensures, c .before .before .hear .ensures .gives, c .before .before .hear .ensures .slots, c .before .before .before .before .head .ensures)
+returns c =
+    let left = c .before .before .hear .ensures in
+    rw (c .whole .ensures, left .gives, left .slots, c .before .before .before .before .head .ensures)
 
 pub hear-spec : {M : Type 1} → statement M
 hear-spec = tie.close (tie.spec head-requires hear-requires whole-requires returns)
