@@ -6,4 +6,5 @@ pub mod Marks
 pub mod Fits
 pub mod Channels
 pub mod Turns
+pub mod Ends
 pub mod Session
