@@ -1,0 +1,1 @@
+-- The cases of the receiver's rules: one law for each answer, so that each return of the code cites one.
