@@ -1,35 +1,25 @@
+-- `fresh` meets its contract: each return is one case of the rule.
 use borrow.Author.Needs.{needs}
 use Rattle.receiver.proofs.fresh.Statement.{statement}
 use Rattle.receiver.proofs.fresh.Tie as tie
-use Rattle.receiver.proofs.fresh.Reads as reads
-use Rattle.receiver.proofs.fresh.Lts as lts
-use Rattle.receiver.proofs.core.first.Reads as first-reads
-use Rattle.setup.proofs.admitted.Reads as admitted-reads
-use Rattle.setup.proofs.zero.Reads as zero-reads
 
--- src/lib.rt:24:8
 admitted-requires : tie.Need-admitted-requires
 admitted-requires c κs = search needs
 
--- src/lib.rt:27:23
 first-requires : tie.Need-first-requires
 first-requires c κs = search needs
 
--- src/lib.rt:32:35
 zero-requires : tie.Need-zero-requires
 zero-requires c κs = search needs
 
--- src/lib.rt:32:23
 first-requires-2 : tie.Need-first-requires-2
 first-requires-2 c κs = search needs
 
--- src/lib.rt:21:1
 returns : tie.Need-returns
-returns c = ?
+returns c = rw (← c .before .before .admitted .ensures, c .before .if1 .taken, c .first .ensures)
 
--- src/lib.rt:21:1
 returns-2 : tie.Need-returns-2
-returns-2 c = ?
+returns-2 c = rw (← c .before .before .before .admitted .ensures, c .before .before .if1 .left, c .first2 .ensures, c .before .zero .ensures)
 
 pub fresh-spec : {M : Type 1} → statement M
 fresh-spec =

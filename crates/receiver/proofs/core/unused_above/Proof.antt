@@ -1,42 +1,40 @@
+-- `unused_above` meets its contract: the slots passed are not in use, so those that are left decide.
+use mathlib.Core.Path.{_≡_, refl, sym, _∙_}
+use Prim.Native.Nat.{_-_, _≤_}
+use native.Mathlib.Omega.{arith}
+use borrow.Author.Tests.{not-true, not-false}
+use Rattle.rules.specs.Malformed.{all-from, unused}
+use Rattle.rules.proofs.Loops.{all-more, all-stop, all-end}
 use Rattle.receiver.proofs.core.unused_above.Statement.{statement}
 use Rattle.receiver.proofs.core.unused_above.Tie as tie
-use Rattle.receiver.proofs.core.unused_above.Reads as reads
-use Rattle.receiver.proofs.core.unused_above.Lts as lts
-use Rattle.receiver.proofs.core.unused_at.Reads as unused-at-reads
 
 abbrev Inv-loop : tie.InvT-loop
-Inv-loop slots marks ring i₀ i = ?
+Inv-loop slots marks ring i₀ i =
+    (i ≤ 64) × (all-from (unused slots marks) ring (64 - ring) ≡ all-from (unused slots marks) i (64 - i))
 
 abbrev μ-loop : tie.MeasureT-loop
-μ-loop slots marks ring i₀ i = ?
+μ-loop slots marks ring i₀ i = 64 - i
 
--- src/core.rt:193:5
 loop-holds : tie.Need-loop-holds Inv-loop μ-loop
-loop-holds c = ?
+loop-holds c = (omega arith, refl)
 
--- src/core.rt:194:13
 unused-at-requires : tie.Need-unused-at-requires Inv-loop μ-loop
-unused-at-requires c κs = ?
+unused-at-requires c κs = omega arith
 
--- src/core.rt:195:13
 returns : tie.Need-returns Inv-loop μ-loop
-returns c = ?
+returns c = sym (c .before .before .before .loop .inv .1 ∙ all-stop _ _ _ (c .before .before .loop-test .taken) (sym (c .before .unused-at .ensures) ∙ not-true _ (c .if1 .taken)))
 
--- src/core.rt:197:9
 add-i : tie.Need-add-i Inv-loop μ-loop
-add-i c = ?
+add-i c = omega arith
 
--- src/core.rt:193:5
 loop-less : tie.Need-loop-less Inv-loop μ-loop
-loop-less c = ?
+loop-less c = omega arith
 
--- src/core.rt:193:5
 loop-again : tie.Need-loop-again Inv-loop μ-loop
-loop-again c = ?
+loop-again c = (omega arith, c .before .before .before .loop .inv .1 ∙ all-more _ _ _ (c .before .before .loop-test .taken) (sym (c .before .unused-at .ensures) ∙ not-false _ (c .if1 .left)))
 
--- src/core.rt:188:1
 returns-2 : tie.Need-returns-2 Inv-loop μ-loop
-returns-2 c = ?
+returns-2 c = sym (c .before .loop .inv .1 ∙ all-end _ _ _ (c .loop-test .left))
 
 pub unused-above-spec : {M : Type 1} → statement M
 unused-above-spec =
