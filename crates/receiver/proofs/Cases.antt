@@ -13,9 +13,10 @@ use Rattle.rules.specs.declared.Receiver.{Receiver}
 use Rattle.rules.specs.declared.BareData.{BareData}
 use Rattle.rules.specs.Numbers.{NS, dist, wrapped}
 use Rattle.rules.specs.Marks.{marked, mark}
-use Rattle.rules.specs.Fit.{FitReceiver, FitData}
+use Rattle.rules.specs.Rows.{laid}
+use Rattle.rules.specs.Fit.{Within, FitReceiver, FitData}
 use Rattle.rules.specs.Events.{Out, Delivery, refused, done, passed, may-arrive, deliver, advanced, stored, arriving, opened, opening}
-use Rattle.rules.specs.Operations.{receiver-done}
+use Rattle.rules.specs.Operations.{receiver-done, receiver-took}
 use Rattle.rules.proofs.Deliveries.{within-here, few, dist-same, dist-other}
 use Rattle.receiver.specs.declared.core.ReceiverHead.{ReceiverHead}
 use Rattle.receiver.specs.declared.core.HeadDone.{HeadDone}
@@ -44,17 +45,24 @@ opening-whole {r} {h} {o} eh eo = rw (eo, eh) (by (leb (r .setup .window) (r .wi
     by true = refl
     by false = refl
 
+-- and so is a packet that arrives
+pub arriving-whole : (r : Receiver) {h : ReceiverHead} (p : BareData) {x : HeadTook} {sl row out : List ℕ} → h ≡ head-of r
+    → Leaves (arriving (wrapped (h .setup)) (h .setup) p (receiver-of h (r .slots))) x sl row out
+    → (record { answer = x .answer; count = x .count; receiver = receiver-of (x .head) sl } ≡ receiver-took (arriving (wrapped (r .setup)) (r .setup) p r))
+      × (out ≡ laid (arriving (wrapped (r .setup)) (r .setup) p r .units) row)
+arriving-whole r p e l = let m = rw e at l in (rw (m .gives, m .slots), m .lent)
+
 -- ---- data arriving
 module _ (h : ReceiverHead) (p : BareData) where
   abbrev o : ℕ
   o = dist (NS (h .setup)) (p .seq) (h .nxt)
 
-  -- an event's test, with what to make of a refusal and of going on
-  abbrev tested : {X : Type 0} → (ℕ → X) → (ℕ → X) → X
-  tested = may-arrive (wrapped (h .setup)) (h .setup) p (receiver-of h [])
+  -- the event's test over the slots sl, with what to make of a refusal and of going on
+  abbrev tested : {X : Type 0} → List ℕ → (ℕ → X) → (ℕ → X) → X
+  tested sl = may-arrive (wrapped (h .setup)) (h .setup) p (receiver-of h sl)
 
   abbrev verdict : ℕ
-  verdict = tested (λ (n : ℕ). n) (λ (o : ℕ). 0)
+  verdict = tested [] (λ (n : ℕ). n) (λ (o : ℕ). 0)
 
   pub stale : passed (wrapped (h .setup)) (h .recent) (p .stamp) ≡ false → 9 ≡ verdict
   stale e = rw e
@@ -76,29 +84,29 @@ module _ (h : ReceiverHead) (p : BareData) where
 
   -- what a verdict says of the event: it is refused with that number; or it goes on, and o is below the window
   data Verdict {X : Type 0} (refuse go : ℕ → X) : ℕ → X → Type 0 where
-    no : (n : ℕ) → (n ≡ 0 → ⊥) → Verdict refuse go n (refuse n)
-    yes : o < h .window → Verdict refuse go 0 (go o)
+    turned-away : (n : ℕ) → (n ≡ 0 → ⊥) → Verdict refuse go n (refuse n)
+    let-in : o < h .window → Verdict refuse go 0 (go o)
 
-  view : {X : Type 0} (refuse go : ℕ → X) → Verdict refuse go verdict (tested refuse go)
-  view refuse go =
+  view : {X : Type 0} (sl : List ℕ) (refuse go : ℕ → X) → Verdict refuse go verdict (tested sl refuse go)
+  view sl refuse go =
       by (passed (wrapped (h .setup)) (h .recent) (p .stamp)) refl (decLt o (h .setup .window)) (decLt o (h .window))
       (marked (h .marks) (p .seq % h .setup .window)) refl
     where
       by : (a : Bool) → passed (wrapped (h .setup)) (h .recent) (p .stamp) ≡ a → Dec (o < h .setup .window) → Dec (o < h .window)
-          → (b : Bool) → marked (h .marks) (p .seq % h .setup .window) ≡ b → Verdict refuse go verdict (tested refuse go)
-      by false e n w b m = rw e (no 9 (λ z. omega arith))
-      by true e (no n) w b m = rw (e, le-ltb _ _ (omega arith)) (no 10 (λ z. omega arith))
-      by true e (yes n) (no w) b m = rw (e, lt-ltb _ _ n, le-leb _ _ (omega arith)) (no 11 (λ z. omega arith))
-      by true e (yes n) (yes w) true m = rw (e, lt-ltb _ _ n, lt-leb _ _ w, m) (no 12 (λ z. omega arith))
-      by true e (yes n) (yes w) false m = rw (e, lt-ltb _ _ n, lt-leb _ _ w, m) (yes w)
+          → (b : Bool) → marked (h .marks) (p .seq % h .setup .window) ≡ b → Verdict refuse go verdict (tested sl refuse go)
+      by false e n w b m = rw e (turned-away 9 (λ z. omega arith))
+      by true e (no n) w b m = rw (e, le-ltb o (h .setup .window) (omega arith)) (turned-away 10 (λ z. omega arith))
+      by true e (yes n) (no w) b m = rw (e, lt-ltb _ _ n, le-leb (h .window) o (omega arith)) (turned-away 11 (λ z. omega arith))
+      by true e (yes n) (yes w) true m = rw (e, lt-ltb _ _ n, lt-leb _ _ w, m) (turned-away 12 (λ z. omega arith))
+      by true e (yes n) (yes w) false m = rw (e, lt-ltb _ _ n, lt-leb _ _ w, m) (let-in w)
 
   refusal : {X : Type 0} {refuse go : ℕ → X} {n : ℕ} {x : X} → Verdict refuse go n x → (n ≡ 0 → ⊥) → x ≡ refuse n
-  refusal (no n l) ne = refl
-  refusal (yes l) ne = absurd (ne refl)
+  refusal (turned-away n l) ne = refl
+  refusal (let-in l) ne = absurd (ne refl)
 
   going : {X : Type 0} {refuse go : ℕ → X} {n : ℕ} {x : X} → Verdict refuse go n x → n ≡ 0 → (x ≡ go o) × (o < h .window)
-  going (no n l) e = absurd (l e)
-  going (yes l) e = (refl, l)
+  going (turned-away n l) e = absurd (l e)
+  going (let-in l) e = (refl, l)
 
   -- the event, over the slots sl and the row that is lent
   module _ (sl row : List ℕ) where
@@ -106,7 +114,7 @@ module _ (h : ReceiverHead) (p : BareData) where
     arrived = arriving (wrapped (h .setup)) (h .setup) p (receiver-of h sl)
 
     event : Verdict (refused (receiver-of h sl)) (stored (wrapped (h .setup)) (h .setup) p (receiver-of h sl)) verdict arrived
-    event = view (refused (receiver-of h sl)) (stored (wrapped (h .setup)) (h .setup) p (receiver-of h sl))
+    event = view sl (refused (receiver-of h sl)) (stored (wrapped (h .setup)) (h .setup) p (receiver-of h sl))
 
     pub refuses : {v : ℕ} → v ≡ verdict → (v ≡ 0 → ⊥) → Leaves arrived (record { answer = v; count = 0; head = h }) sl row row
     refuses {v} e ne = rw (refusal event (λ z. ne (e ∙ z))) (record { gives = rw e; slots = refl; lent = refl })
@@ -137,11 +145,12 @@ module _ (h : ReceiverHead) (p : BareData) where
             -- the count is no more than the window
             pub at-most : d .count ≤ h .window
             at-most =
+                let S = h .setup in
                 let room : 0 < h .window = omega (arith, goes-on .1, here) in
-                let near = within-here (fit .setup .some) room (fit .marks) in
-                let n : length (delivery .units) ≤ h .window =
-                rw (on, slot, next) (few _ _ (fit .setup .some) (fit .setup .most) (fit .setup .even) _ _ _ _ _ near) in
-                rw (c .gives) n
+                let near : Within (S .window) (h .nxt) (h .window) mk = rw (on, slot, next) (within-here (fit .setup .some) room (fit .marks)) in
+                rw (c .gives)
+                (few (S .window) (NS S) (fit .setup .some) (fit .setup .most) (fit .setup .even)
+                (S .window) (h .nxt) (h .window) (set sl at (p .unit)) mk near)
 
             pub delivers : Leaves arrived (record { answer = 0; count = d .count; head = head-advanced h (p .stamp) d }) tl row out
             delivers =

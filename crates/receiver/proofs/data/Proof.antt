@@ -1,47 +1,37 @@
+-- `data` meets its contract: the three refusals come first, in their order, and leave the row; what passes them has what the work asks for.
+use mathlib.Core.Path.{refl, sym, _∙_}
+use borrow.Author.Tests.{not-true, not-false, lt-ltb, le-ltb}
+use Rattle.rules.proofs.Fits.{fit-receiver, fit-data}
 use borrow.Author.Needs.{needs}
 use Rattle.receiver.proofs.data.Statement.{statement}
 use Rattle.receiver.proofs.data.Tie as tie
-use Rattle.receiver.proofs.data.Reads as reads
-use Rattle.receiver.proofs.data.Lts as lts
-use Rattle.numbers.proofs.core.packet.data_in_range.Reads as data-in-range-reads
-use Rattle.receiver.proofs.core.data.Reads as data-reads
-use Rattle.receiver.proofs.malformed.Reads as malformed-reads
 
--- src/lib.rt:53:8
 malformed-requires : tie.Need-malformed-requires
 malformed-requires c κs = search needs
 
--- src/lib.rt:54:9
 returns : tie.Need-returns
-returns c = ?
+returns c = rw (sym (c .before .malformed .ensures) ∙ c .if1 .taken) (refl, refl)
 
--- src/lib.rt:60:20
 cast-if2 : tie.Need-cast-if2
 cast-if2 c = search needs
 
--- src/lib.rt:61:9
 returns-2 : tie.Need-returns-2
-returns-2 c = ?
+returns-2 c = rw (sym (c .before .before .before .malformed .ensures) ∙ c .before .before .if1 .left, lt-ltb _ _ (c .if2 .taken)) (refl, refl)
 
--- src/lib.rt:67:9
 data-in-range-requires : tie.Need-data-in-range-requires
-data-in-range-requires c κs = ?
+data-in-range-requires c κs = let f = fit-receiver _ (sym (c .before .before .before .malformed .ensures) ∙ c .before .before .if1 .left) in (f .setup .seqbits, f .setup .clockbits)
 
--- src/lib.rt:68:9
 returns-3 : tie.Need-returns-3
-returns-3 c = ?
+returns-3 c = rw (sym (c .before .before .before .before .before .malformed .ensures) ∙ c .before .before .before .before .if1 .left, le-ltb _ _ (c .before .before .if2 .left), sym (c .before .data-in-range .ensures) ∙ not-true _ (c .if3 .taken)) (refl, refl)
 
--- src/lib.rt:74:5
 data-requires : tie.Need-data-requires
-data-requires c κs = ?
+data-requires c κs = (fit-receiver _ (sym (c .before .before .before .before .before .before .malformed .ensures) ∙ c .before .before .before .before .before .if1 .left), fit-data _ _ (sym (c .before .before .data-in-range .ensures) ∙ not-false _ (c .before .if3 .left)), c .before .before .before .if2 .left)
 
--- src/lib.rt:49:1
 same-length : tie.Need-same-length
 same-length c = search needs
 
--- src/lib.rt:49:1
 returns-4 : tie.Need-returns-4
-returns-4 c = ?
+returns-4 c = rw (sym (c .before .before .before .before .before .before .before .before .before .malformed .ensures) ∙ c .before .before .before .before .before .before .before .before .if1 .left, le-ltb _ _ (c .before .before .before .before .before .before .if2 .left), sym (c .before .before .before .before .before .data-in-range .ensures) ∙ not-false _ (c .before .before .before .before .if3 .left)) (c .before .before .«data» .ensures)
 
 pub data-spec : {M : Type 1} → statement M
 data-spec =

@@ -1,26 +1,26 @@
+-- `malformed` meets its contract: a setup that is not admitted makes it so, and else the test of the rest.
+use mathlib.Core.Path.{sym, _∙_}
+use borrow.Author.Tests.{not-true, not-false}
+use Rattle.rules.specs.Setups.{_also_}
+use Rattle.rules.specs.Malformed.{malformed-receiver}
+use Rattle.rules.proofs.Fits.{limits, fit-setup}
 use borrow.Author.Needs.{needs}
 use Rattle.receiver.proofs.malformed.Statement.{statement}
 use Rattle.receiver.proofs.malformed.Tie as tie
-use Rattle.receiver.proofs.malformed.Reads as reads
-use Rattle.receiver.proofs.malformed.Lts as lts
-use Rattle.receiver.proofs.core.formed.Reads as formed-reads
-use Rattle.setup.proofs.admitted.Reads as admitted-reads
 
--- src/lib.rt:40:9
 admitted-requires : tie.Need-admitted-requires
 admitted-requires c κs = search needs
 
--- src/lib.rt:41:9
 returns : tie.Need-returns
-returns c = ?
+unfolding malformed-receiver _also_
+returns c = rw (← c .before .admitted .ensures, not-true (c .before .admitted .result) (c .if1 .taken))
 
--- src/lib.rt:43:6
 formed-requires : tie.Need-formed-requires
-formed-requires c κs = ?
+formed-requires c κs = fit-setup (limits _ (sym (c .before .admitted .ensures) ∙ not-false _ (c .if1 .left)))
 
--- src/lib.rt:37:1
 returns-2 : tie.Need-returns-2
-returns-2 c = ?
+unfolding malformed-receiver _also_
+returns-2 c = rw (← c .before .before .admitted .ensures, not-false (c .before .before .admitted .result) (c .before .if1 .left), c .formed .ensures)
 
 pub malformed-spec : {M : Type 1} → statement M
 malformed-spec = tie.close (tie.spec admitted-requires returns formed-requires returns-2)
