@@ -36,12 +36,13 @@ opening-whole {r} {h} {o} eh eo = rw (eo, eh) (by (leb (r .setup .window) (r .wi
   where
     over : Receiver
     over = receiver-of (head-of r) []
+
     by : (b : Bool)
         → record {
-            answer = cond b (refused over 13) (done (opened over)) .answer;
-            receiver = receiver-of (head-of (cond b (refused over 13) (done (opened over)) .state)) (r .slots);
-          }
-          ≡ receiver-done (cond b (refused r 13) (done (opened r)))
+          answer = cond b (refused over 13) (done (opened over)) .answer;
+          receiver = receiver-of (head-of (cond b (refused over 13) (done (opened over)) .state)) (r .slots);
+        }
+        ≡ receiver-done (cond b (refused r 13) (done (opened r)))
     by true = refl
     by false = refl
 
@@ -49,7 +50,7 @@ opening-whole {r} {h} {o} eh eo = rw (eo, eh) (by (leb (r .setup .window) (r .wi
 pub arriving-whole : (r : Receiver) {h : ReceiverHead} (p : BareData) {x : HeadTook} {sl row out : List ℕ} → h ≡ head-of r
     → Leaves (arriving (wrapped (h .setup)) (h .setup) p (receiver-of h (r .slots))) x sl row out
     → (record { answer = x .answer; count = x .count; receiver = receiver-of (x .head) sl } ≡ receiver-took (arriving (wrapped (r .setup)) (r .setup) p r))
-      × (out ≡ laid (arriving (wrapped (r .setup)) (r .setup) p r .units) row)
+    × (out ≡ laid (arriving (wrapped (r .setup)) (r .setup) p r .units) row)
 arriving-whole r p e l = let m = rw e at l in (rw (m .gives, m .slots), m .lent)
 
 -- ---- data arriving

@@ -47,6 +47,7 @@ module _ (R N : ℕ) (some : 0 < R) (most : R ≤ 64) (even : R ∣ N) where
     where
       rest : Delivery
       rest = deliver (λ (x : ℕ). x % N) R turns (suc q % N) (set sl (q % R) 0) (unmark mk (q % R))
+
       by : (marked mk (q % R) ≡ true → 0 < w) → ((v : ℕ) → w ≡ suc v → length (rest .units) ≤ v)
           → (b : Bool) → marked mk (q % R) ≡ b → (v : ℕ) → w ≡ v
           → length (cond b (and-first (getD sl (q % R) 0) rest) (deliver (λ (x : ℕ). x % N) R zero q sl mk) .units) ≤ v
