@@ -3,7 +3,7 @@ use mathlib.Core.Path.{_≡_, refl, sym, _∙_, ap, ap₂, subst}
 use mathlib.Core.Bool.{Bool, true, false, cond, not, _||_}
 use mathlib.Core.List.{List, [], _∷_, _++_}
 use Prim.Native.Nat.{ℕ, zero, suc, _+_, _-_, _*_, _%_, _^_, _≤_, _<_, _/_, _∣_}
-use native.Mathlib.Nat.{dvd-mul-right, mod-add-mod, mod-mod-of-dvd}
+use native.Mathlib.Nat.{dvd-mul-right}
 use native.Mathlib.Decide.{decLe}
 use native.Mathlib.Omega.{arith}
 use lib.Dec.{leb, eqb}
@@ -32,6 +32,7 @@ use Rattle.rules.specs.Fit.{FitSetup, FitRecent, FitSender, Within, FitR
 use Rattle.rules.proofs.Tests.{both, _and_, or-case, passes}
 use Rattle.rules.proofs.Loops.{all-at}
 use Rattle.rules.proofs.Rows.{length-row}
+use Rattle.rules.proofs.Deliveries.{same-slots}
 
 -- ---- an admitted setup
 -- a window is a power of two, of at most 64
@@ -108,9 +109,7 @@ fit-setup {S} a = record
 
 -- a number and the same number round NS have the same slots ahead
 pub turn : {S : Setup} → FitSetup S → (x d : ℕ) → (x % NS S + d) % S .window ≡ (x + d) % S .window
-turn {S} f x d =
-    sym (mod-add-mod (x % NS S) (S .window) d)
-    ∙ ap (λ (y : ℕ). (y + d) % S .window) (mod-mod-of-dvd (S .window) x (f .even)) ∙ mod-add-mod x (S .window) d
+turn {S} f = same-slots (S .window) (NS S) (f .even)
 
 -- the same eight numbers are the same setup
 pub same-is : (S T : Setup) → same-setup S T ≡ true → S ≡ T

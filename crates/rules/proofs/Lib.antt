@@ -3,6 +3,7 @@ pub mod Loops
 pub mod Rows
 pub mod Wrap
 pub mod Marks
+pub mod Deliveries
 pub mod Fits
 pub mod Channels
 pub mod Turns

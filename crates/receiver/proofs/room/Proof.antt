@@ -1,0 +1,21 @@
+-- `room` meets its contract: a receiver that is not malformed has what the work asks for.
+use mathlib.Core.Path.{sym, _∙_}
+use Rattle.rules.proofs.Fits.{fit-receiver}
+use borrow.Author.Needs.{needs}
+use Rattle.receiver.proofs.room.Statement.{statement}
+use Rattle.receiver.proofs.room.Tie as tie
+
+malformed-requires : tie.Need-malformed-requires
+malformed-requires c κs = search needs
+
+returns : tie.Need-returns
+returns c = rw (sym (c .before .malformed .ensures) ∙ c .if1 .taken)
+
+room-requires : tie.Need-room-requires
+room-requires c κs = fit-receiver _ (sym (c .before .malformed .ensures) ∙ c .if1 .left)
+
+returns-2 : tie.Need-returns-2
+returns-2 c = rw (sym (c .before .before .malformed .ensures) ∙ c .before .if1 .left) (c .room .ensures)
+
+pub room-spec : {M : Type 1} → statement M
+room-spec = tie.close (tie.spec malformed-requires returns room-requires returns-2)
