@@ -5,3 +5,4 @@ pub mod Wrap
 pub mod Marks
 pub mod Fits
 pub mod Session
+pub mod Agreement

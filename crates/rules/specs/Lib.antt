@@ -9,3 +9,4 @@ pub mod Events
 pub mod Operations
 pub mod Runs
 pub mod Examples
+pub mod Agreement

@@ -1,0 +1,3 @@
+-- Agreement of the wrapped and the whole bench: what its proof is made of, from the parts to the theorem.
+pub mod Cases
+pub mod Lists
