@@ -1,3 +1,5 @@
 -- Agreement of the wrapped and the whole bench: what its proof is made of, from the parts to the theorem.
 pub mod Cases
 pub mod Lists
+pub mod Way
+pub mod Ring
