@@ -3,3 +3,4 @@ pub mod Cases
 pub mod Lists
 pub mod Way
 pub mod Ring
+pub mod Channels

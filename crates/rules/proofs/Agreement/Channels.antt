@@ -1,0 +1,198 @@
+-- What the events do to a channel, on wrapped and on whole numbers alike. One set of laws over either channel: `Shows` says what
+-- they need to know of it and of the way its packets are shown, and `Holds` that each packet in it has a fact.
+use mathlib.Core.Path.{_≡_, refl, sym, _∙_, ap}
+use mathlib.Core.Bool.{Bool, true, false}
+use mathlib.Core.List.{List, [], _∷_, _++_, map}
+use mathlib.Core.Logic.{_≢_}
+use Prim.Native.Nat.{ℕ, suc, _-_, _≤_, _<_}
+use native.Mathlib.Nat.{zero-mod}
+use native.Mathlib.Omega.{arith}
+use lib.Dec.{leb}
+use lib.ListN.{length, getD, take, drop, replicate, length-map, length-take, length-append}
+use lib.Seq.{drop-append-seam}
+use borrow.Author.Tests.{le-leb}
+use Rattle.rules.specs.declared.Setup.{Setup}
+use Rattle.rules.specs.declared.BareData.{BareData}
+use Rattle.rules.specs.declared.BareAck.{BareAck}
+use Rattle.rules.specs.declared.DataPacket.{DataPacket}
+use Rattle.rules.specs.declared.AckPacket.{AckPacket}
+use Rattle.rules.specs.declared.DataChannel.{DataChannel}
+use Rattle.rules.specs.declared.AckChannel.{AckChannel}
+use Rattle.rules.specs.Numbers.{NS, NC}
+use Rattle.rules.specs.Rows.{row, remove, aged}
+use Rattle.rules.specs.Parts.{Channel, live, data-channel, ack-channel, new-data, new-ack, no-data, no-ack}
+use Rattle.rules.specs.Fit.{FitChannel}
+use Rattle.rules.specs.Malformed.{every, formed-channel}
+use Rattle.rules.specs.Events.{Out, refused, packet-at, adding, removed, dropping, copying, ticked-channel}
+use Rattle.rules.specs.Agreement.{wrap-data, wrap-ack, wrap-datas, wrap-acks}
+use Rattle.rules.proofs.Tests.{_and_}
+use Rattle.rules.proofs.Rows.{live-row, length-row}
+use Rattle.rules.proofs.Agreement.Cases.{on-le}
+use Rattle.rules.proofs.Agreement.Lists.{All, done, more, all-add, all-remove, all-getD, all-imply, all-aged, every-is, map-add, map-remove, map-getD, map-aged, map-take, map-row, length-remove-le, length-aged-le}
+
+-- ---- an answer of a run from fresh
+pub record Proper (n : ℕ) : Type 0 where
+  pub formed : n ≢ 2
+  pub near : n ≢ 11
+
+-- what an event gives, with its state shown
+abbrev pub shown : {X : Type 0} → (X → X) → Out X → Out X
+shown W o = record { answer = o .answer; units = o .units; state = W (o .state) }
+
+-- an event on both: the one is the other shown, and a fact of the state is kept; it delivers nothing
+pub record Alike {X : Type 0} (W : X → X) (P : X → Type 0) (w z : Out X) : Type 0 where
+  pub same : w ≡ shown W z
+  pub kept : P (z .state)
+  pub silent : z .units ≡ []
+  pub proper : Proper (z .answer)
+
+-- ---- a channel whose packets are shown by f, and which is itself shown by W
+pub record Shows {H P C : Type 0} (K : Channel H P C) (f : P → P) (W : C → C) : Type 0 where
+  pub count-fill : (c : C) (l : List P) → K .count (K .fill c l) ≡ length l
+  pub packets-fill : (c : C) (l : List P) → K .packets (K .fill c l) ≡ row (K .new (K .nothing)) l
+  pub count : (c : C) → K .count (W c) ≡ K .count c
+  pub packets : (c : C) → K .packets (W c) ≡ map f (K .packets c)
+  pub fill : (c : C) (l : List P) → K .fill (W c) (map f l) ≡ W (K .fill c l)
+  pub nothing : f (K .new (K .nothing)) ≡ K .new (K .nothing)
+  pub age : (p : P) → K .age (f p) ≡ K .age p
+  pub older : (p : P) → K .older (f p) ≡ f (K .older p)
+
+no-data-shown : (S : Setup) → wrap-data S (new-data no-data) ≡ new-data no-data
+no-data-shown S = rw (zero-mod (NS S), zero-mod (NC S))
+
+no-ack-shown : (S : Setup) → wrap-ack S (new-ack no-ack) ≡ new-ack no-ack
+no-ack-shown S = rw (zero-mod (NS S), zero-mod (NC S))
+
+pub shows-datas : (S : Setup) → Shows data-channel (wrap-data S) (wrap-datas S)
+shows-datas S = record {
+  count-fill = λ c l. refl;
+  packets-fill = λ c l. refl;
+  count = λ c. refl;
+  packets = λ c. refl;
+  fill = λ c l. rw (length-map l (wrap-data S), map-row (wrap-data S) (new-data no-data) (new-data no-data) (no-data-shown S) l);
+  nothing = no-data-shown S;
+  age = λ p. refl;
+  older = λ p. refl;
+}
+
+pub shows-acks : (S : Setup) → Shows ack-channel (wrap-ack S) (wrap-acks S)
+shows-acks S = record {
+  count-fill = λ c l. refl;
+  packets-fill = λ c l. refl;
+  count = λ c. refl;
+  packets = λ c. refl;
+  fill = λ c l. rw (length-map l (wrap-ack S), map-row (wrap-ack S) (new-ack no-ack) (new-ack no-ack) (no-ack-shown S) l);
+  nothing = no-ack-shown S;
+  age = λ p. refl;
+  older = λ p. refl;
+}
+
+-- ---- the packets in a channel have a fact each
+pub record Holds {H P C : Type 0} (K : Channel H P C) (F : P → Type 0) (c : C) : Type 0 where
+  pub fit : FitChannel K c
+  pub all : All F (live K c)
+
+module _ {H P C : Type 0} {K : Channel H P C} where
+  pub holds-imply : {F G : P → Type 0} {c : C} → ((p : P) → F p → G p) → Holds K F c → Holds K G c
+  holds-imply f h = record { fit = h .fit; all = all-imply f (h .all) }
+
+  pub live-length : {c : C} → FitChannel K c → length (live K c) ≡ K .count c
+  live-length {c} h =
+      let few = h .few in
+      let short : length (live K c) ≤ 32 = omega (arith, length-take (K .count c) (K .packets c)) in
+      omega (arith, length-take (K .count c) (K .packets c), ap length (h .rest), length-row (K .new (K .nothing)) (live K c) short)
+
+module _ {H P C : Type 0} (K : Channel H P C) (f : P → P) (W : C → C) (k : Shows K f W) where
+  pub live-fill : (c : C) (l : List P) → live K (K .fill c l) ≡ l
+  live-fill c l = rw (k .count-fill c l, k .packets-fill c l) (live-row (K .new (K .nothing)) l)
+
+  pub live-shown : (c : C) → live K (W c) ≡ map f (live K c)
+  live-shown c = rw (k .count c, k .packets c) (map-take f (K .count c) (K .packets c))
+
+  pub holds-fill : {F : P → Type 0} (c : C) {l : List P} → length l ≤ 32 → All F l → Holds K F (K .fill c l)
+  holds-fill c {l} le a = record {
+    fit = record {
+      few = rw (k .count-fill c l) le;
+      rest = k .packets-fill c l ∙ ap (row (K .new (K .nothing))) (sym (live-fill c l));
+    };
+    all = rw (live-fill c l) a;
+  }
+
+  -- a filled channel, shown
+  fill-shown : (c : C) (l : List P) {l′ : List P} → l′ ≡ map f l → K .fill (W c) l′ ≡ W (K .fill c l)
+  fill-shown c l e = rw e (k .fill c l)
+
+  -- ---- a fact of each packet, under an event
+  module _ {F : P → Type 0} {c : C} (h : Holds K F c) where
+    inside : {j : ℕ} → j < K .count c → j < length (live K c)
+    inside lt = omega (arith, live-length (h .fit))
+
+    pub packet-at-shown : (j : ℕ) → j < K .count c → packet-at K j (W c) ≡ f (packet-at K j c)
+    packet-at-shown j lt = rw (live-shown c) (map-getD f (live K c) j (K .new (K .nothing)) (K .new (K .nothing)) (inside lt))
+
+    pub packet-at-holds : (j : ℕ) → j < K .count c → F (packet-at K j c)
+    packet-at-holds j lt = all-getD j (K .new (K .nothing)) (h .all) (inside lt)
+
+    pub removed-shown : (j : ℕ) → removed K j (W c) ≡ W (removed K j c)
+    removed-shown j = fill-shown c (remove j (live K c)) (rw (live-shown c) (map-remove f j (live K c)))
+
+    pub removed-holds : (j : ℕ) → Holds K F (removed K j c)
+    removed-holds j =
+        let few = h .fit .few in
+        holds-fill c (omega (arith, live-length (h .fit), length-remove-le j (live K c))) (all-remove j (h .all))
+
+    -- p at the end, and p′ where it is shown
+    abbrev added : (p′ p : P) → p′ ≡ f p → F p → K .count c < 32
+        → Alike W (Holds K F) (refused (K .fill (W c) (live K (W c) ++ p′ ∷ [])) 0) (refused (K .fill c (live K c ++ p ∷ [])) 0)
+    added p′ p e o lt = record {
+      same = ap (λ (x : C). refused x 0) (fill-shown c (live K c ++ p ∷ []) (rw (live-shown c, map-add f (live K c) p, e)));
+      kept = holds-fill c (omega (arith, live-length (h .fit), length-append (live K c) (p ∷ []))) (all-add (h .all) o);
+      silent = refl;
+      proper = record { formed = omega arith; near = omega arith };
+    }
+
+    no : (n : ℕ) → Proper n → Alike W (Holds K F) (refused (W c) n) (refused c n)
+    no n q = record { same = refl; kept = h; silent = refl; proper = q }
+
+    counts : (n : ℕ) → leb n (K .count (W c)) ≡ leb n (K .count c)
+    counts n = rw (k .count c)
+
+    counted : (n : ℕ) → leb (K .count (W c)) n ≡ leb (K .count c) n
+    counted n = rw (k .count c)
+
+    pub adding-alike : (p′ p : H) → K .new p′ ≡ f (K .new p) → F (K .new p) → Alike W (Holds K F) (adding K p′ (W c)) (adding K p c)
+    adding-alike p′ p e o =
+        on-le (Alike W (Holds K F)) 32 (K .count c) (counts 32)
+        (λ _. no 5 (record { formed = omega arith; near = omega arith }))
+        (λ lt. added (K .new p′) (K .new p) e o lt)
+
+    pub dropping-alike : (j : ℕ) → Alike W (Holds K F) (dropping K j (W c)) (dropping K j c)
+    dropping-alike j =
+        on-le (Alike W (Holds K F)) (K .count c) j (counted j)
+        (λ _. no 4 (record { formed = omega arith; near = omega arith }))
+        (λ _. record {
+          same = ap (λ (x : C). refused x 0) (removed-shown j);
+          kept = removed-holds j;
+          silent = refl;
+          proper = record { formed = omega arith; near = omega arith };
+        })
+
+    pub copying-alike : (j : ℕ) → Alike W (Holds K F) (copying K j (W c)) (copying K j c)
+    copying-alike j =
+        on-le (Alike W (Holds K F)) (K .count c) j (counted j)
+        (λ _. no 4 (record { formed = omega arith; near = omega arith }))
+        (λ here. on-le (Alike W (Holds K F)) 32 (K .count c) (counts 32)
+        (λ _. no 5 (record { formed = omega arith; near = omega arith }))
+        (λ lt. added (packet-at K j (W c)) (packet-at K j c) (packet-at-shown j here) (packet-at-holds j here) lt))
+
+    pub ticked-shown : (L : ℕ) → ticked-channel K L (W c) ≡ W (ticked-channel K L c)
+    ticked-shown L =
+        fill-shown c (aged (K .age) (K .older) L (live K c))
+        (rw (live-shown c) (map-aged f (K .age) (K .older) (K .age) (K .older) L (k .age) (k .older) (live K c)))
+
+    pub ticked-holds : {G : P → Type 0} (L : ℕ) → ((p : P) → suc (K .age p) ≤ L → F p → G (K .older p))
+        → Holds K G (ticked-channel K L c)
+    ticked-holds L g =
+        let few = h .fit .few in
+        holds-fill c (omega (arith, live-length (h .fit), length-aged-le (K .age) (K .older) L (live K c)))
+        (all-aged (K .age) (K .older) L g (h .all))
