@@ -4,3 +4,5 @@ pub mod Lists
 pub mod Way
 pub mod Ring
 pub mod Channels
+pub mod State
+pub mod Steps

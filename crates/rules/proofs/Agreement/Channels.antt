@@ -46,8 +46,9 @@ pub record Alike {X : Type 0} (W : X → X) (P : X → Type 0) (w z : Out X) : T
   pub silent : z .units ≡ []
   pub proper : Proper (z .answer)
 
--- ---- a channel whose packets are shown by f, and which is itself shown by W
-pub record Shows {H P C : Type 0} (K : Channel H P C) (f : P → P) (W : C → C) : Type 0 where
+-- ---- a channel whose setup is found by `at`, whose packets are shown by f, and which is itself shown by W
+pub record Shows {H P C : Type 0} (K : Channel H P C) (at : C → Setup) (f : P → P) (W : C → C) : Type 0 where
+  pub setup-fill : (c : C) (l : List P) → at (K .fill c l) ≡ at c
   pub count-fill : (c : C) (l : List P) → K .count (K .fill c l) ≡ length l
   pub packets-fill : (c : C) (l : List P) → K .packets (K .fill c l) ≡ row (K .new (K .nothing)) l
   pub count : (c : C) → K .count (W c) ≡ K .count c
@@ -63,8 +64,15 @@ no-data-shown S = rw (zero-mod (NS S), zero-mod (NC S))
 no-ack-shown : (S : Setup) → wrap-ack S (new-ack no-ack) ≡ new-ack no-ack
 no-ack-shown S = rw (zero-mod (NS S), zero-mod (NC S))
 
-pub shows-datas : (S : Setup) → Shows data-channel (wrap-data S) (wrap-datas S)
+abbrev pub of-datas : DataChannel → Setup
+of-datas c = c .setup
+
+abbrev pub of-acks : AckChannel → Setup
+of-acks c = c .setup
+
+pub shows-datas : (S : Setup) → Shows data-channel of-datas (wrap-data S) (wrap-datas S)
 shows-datas S = record {
+  setup-fill = λ c l. refl;
   count-fill = λ c l. refl;
   packets-fill = λ c l. refl;
   count = λ c. refl;
@@ -75,8 +83,9 @@ shows-datas S = record {
   older = λ p. refl;
 }
 
-pub shows-acks : (S : Setup) → Shows ack-channel (wrap-ack S) (wrap-acks S)
+pub shows-acks : (S : Setup) → Shows ack-channel of-acks (wrap-ack S) (wrap-acks S)
 shows-acks S = record {
+  setup-fill = λ c l. refl;
   count-fill = λ c l. refl;
   packets-fill = λ c l. refl;
   count = λ c. refl;
@@ -87,14 +96,16 @@ shows-acks S = record {
   older = λ p. refl;
 }
 
--- ---- the packets in a channel have a fact each
-pub record Holds {H P C : Type 0} (K : Channel H P C) (F : P → Type 0) (c : C) : Type 0 where
+-- ---- a channel under the setup S, of whose packets each has a fact
+pub record Holds {H P C : Type 0} (K : Channel H P C) (at : C → Setup) (S : Setup) (F : P → Type 0) (c : C) : Type 0 where
+  pub setup : at c ≡ S
   pub fit : FitChannel K c
   pub all : All F (live K c)
 
 module _ {H P C : Type 0} {K : Channel H P C} where
-  pub holds-imply : {F G : P → Type 0} {c : C} → ((p : P) → F p → G p) → Holds K F c → Holds K G c
-  holds-imply f h = record { fit = h .fit; all = all-imply f (h .all) }
+  pub holds-imply : {at : C → Setup} {S : Setup} {F G : P → Type 0} {c : C} → ((p : P) → F p → G p) → Holds K at S F c
+      → Holds K at S G c
+  holds-imply f h = record { setup = h .setup; fit = h .fit; all = all-imply f (h .all) }
 
   pub live-length : {c : C} → FitChannel K c → length (live K c) ≡ K .count c
   live-length {c} h =
@@ -102,15 +113,17 @@ module _ {H P C : Type 0} {K : Channel H P C} where
       let short : length (live K c) ≤ 32 = omega (arith, length-take (K .count c) (K .packets c)) in
       omega (arith, length-take (K .count c) (K .packets c), ap length (h .rest), length-row (K .new (K .nothing)) (live K c) short)
 
-module _ {H P C : Type 0} (K : Channel H P C) (f : P → P) (W : C → C) (k : Shows K f W) where
+module _ {H P C : Type 0} {K : Channel H P C} {at : C → Setup} {f : P → P} {W : C → C} (k : Shows K at f W) where
   pub live-fill : (c : C) (l : List P) → live K (K .fill c l) ≡ l
   live-fill c l = rw (k .count-fill c l, k .packets-fill c l) (live-row (K .new (K .nothing)) l)
 
   pub live-shown : (c : C) → live K (W c) ≡ map f (live K c)
   live-shown c = rw (k .count c, k .packets c) (map-take f (K .count c) (K .packets c))
 
-  pub holds-fill : {F : P → Type 0} (c : C) {l : List P} → length l ≤ 32 → All F l → Holds K F (K .fill c l)
-  holds-fill c {l} le a = record {
+  pub holds-fill : {S : Setup} {F : P → Type 0} (c : C) {l : List P} → at c ≡ S → length l ≤ 32 → All F l
+      → Holds K at S F (K .fill c l)
+  holds-fill c {l} e le a = record {
+    setup = k .setup-fill c l ∙ e;
     fit = record {
       few = rw (k .count-fill c l) le;
       rest = k .packets-fill c l ∙ ap (row (K .new (K .nothing))) (sym (live-fill c l));
@@ -123,7 +136,7 @@ module _ {H P C : Type 0} (K : Channel H P C) (f : P → P) (W : C → C) (k : S
   fill-shown c l e = rw e (k .fill c l)
 
   -- ---- a fact of each packet, under an event
-  module _ {F : P → Type 0} {c : C} (h : Holds K F c) where
+  module _ {S : Setup} {F : P → Type 0} {c : C} (h : Holds K at S F c) where
     inside : {j : ℕ} → j < K .count c → j < length (live K c)
     inside lt = omega (arith, live-length (h .fit))
 
@@ -136,22 +149,22 @@ module _ {H P C : Type 0} (K : Channel H P C) (f : P → P) (W : C → C) (k : S
     pub removed-shown : (j : ℕ) → removed K j (W c) ≡ W (removed K j c)
     removed-shown j = fill-shown c (remove j (live K c)) (rw (live-shown c) (map-remove f j (live K c)))
 
-    pub removed-holds : (j : ℕ) → Holds K F (removed K j c)
+    pub removed-holds : (j : ℕ) → Holds K at S F (removed K j c)
     removed-holds j =
         let few = h .fit .few in
-        holds-fill c (omega (arith, live-length (h .fit), length-remove-le j (live K c))) (all-remove j (h .all))
+        holds-fill c (h .setup) (omega (arith, live-length (h .fit), length-remove-le j (live K c))) (all-remove j (h .all))
 
     -- p at the end, and p′ where it is shown
     abbrev added : (p′ p : P) → p′ ≡ f p → F p → K .count c < 32
-        → Alike W (Holds K F) (refused (K .fill (W c) (live K (W c) ++ p′ ∷ [])) 0) (refused (K .fill c (live K c ++ p ∷ [])) 0)
+        → Alike W (Holds K at S F) (refused (K .fill (W c) (live K (W c) ++ p′ ∷ [])) 0) (refused (K .fill c (live K c ++ p ∷ [])) 0)
     added p′ p e o lt = record {
       same = ap (λ (x : C). refused x 0) (fill-shown c (live K c ++ p ∷ []) (rw (live-shown c, map-add f (live K c) p, e)));
-      kept = holds-fill c (omega (arith, live-length (h .fit), length-append (live K c) (p ∷ []))) (all-add (h .all) o);
+      kept = holds-fill c (h .setup) (omega (arith, live-length (h .fit), length-append (live K c) (p ∷ []))) (all-add (h .all) o);
       silent = refl;
       proper = record { formed = omega arith; near = omega arith };
     }
 
-    no : (n : ℕ) → Proper n → Alike W (Holds K F) (refused (W c) n) (refused c n)
+    no : (n : ℕ) → Proper n → Alike W (Holds K at S F) (refused (W c) n) (refused c n)
     no n q = record { same = refl; kept = h; silent = refl; proper = q }
 
     counts : (n : ℕ) → leb n (K .count (W c)) ≡ leb n (K .count c)
@@ -160,15 +173,15 @@ module _ {H P C : Type 0} (K : Channel H P C) (f : P → P) (W : C → C) (k : S
     counted : (n : ℕ) → leb (K .count (W c)) n ≡ leb (K .count c) n
     counted n = rw (k .count c)
 
-    pub adding-alike : (p′ p : H) → K .new p′ ≡ f (K .new p) → F (K .new p) → Alike W (Holds K F) (adding K p′ (W c)) (adding K p c)
+    pub adding-alike : (p′ p : H) → K .new p′ ≡ f (K .new p) → F (K .new p) → Alike W (Holds K at S F) (adding K p′ (W c)) (adding K p c)
     adding-alike p′ p e o =
-        on-le (Alike W (Holds K F)) 32 (K .count c) (counts 32)
+        on-le (Alike W (Holds K at S F)) 32 (K .count c) (counts 32)
         (λ _. no 5 (record { formed = omega arith; near = omega arith }))
         (λ lt. added (K .new p′) (K .new p) e o lt)
 
-    pub dropping-alike : (j : ℕ) → Alike W (Holds K F) (dropping K j (W c)) (dropping K j c)
+    pub dropping-alike : (j : ℕ) → Alike W (Holds K at S F) (dropping K j (W c)) (dropping K j c)
     dropping-alike j =
-        on-le (Alike W (Holds K F)) (K .count c) j (counted j)
+        on-le (Alike W (Holds K at S F)) (K .count c) j (counted j)
         (λ _. no 4 (record { formed = omega arith; near = omega arith }))
         (λ _. record {
           same = ap (λ (x : C). refused x 0) (removed-shown j);
@@ -177,11 +190,11 @@ module _ {H P C : Type 0} (K : Channel H P C) (f : P → P) (W : C → C) (k : S
           proper = record { formed = omega arith; near = omega arith };
         })
 
-    pub copying-alike : (j : ℕ) → Alike W (Holds K F) (copying K j (W c)) (copying K j c)
+    pub copying-alike : (j : ℕ) → Alike W (Holds K at S F) (copying K j (W c)) (copying K j c)
     copying-alike j =
-        on-le (Alike W (Holds K F)) (K .count c) j (counted j)
+        on-le (Alike W (Holds K at S F)) (K .count c) j (counted j)
         (λ _. no 4 (record { formed = omega arith; near = omega arith }))
-        (λ here. on-le (Alike W (Holds K F)) 32 (K .count c) (counts 32)
+        (λ here. on-le (Alike W (Holds K at S F)) 32 (K .count c) (counts 32)
         (λ _. no 5 (record { formed = omega arith; near = omega arith }))
         (λ lt. added (packet-at K j (W c)) (packet-at K j c) (packet-at-shown j here) (packet-at-holds j here) lt))
 
@@ -191,8 +204,8 @@ module _ {H P C : Type 0} (K : Channel H P C) (f : P → P) (W : C → C) (k : S
         (rw (live-shown c) (map-aged f (K .age) (K .older) (K .age) (K .older) L (k .age) (k .older) (live K c)))
 
     pub ticked-holds : {G : P → Type 0} (L : ℕ) → ((p : P) → suc (K .age p) ≤ L → F p → G (K .older p))
-        → Holds K G (ticked-channel K L c)
+        → Holds K at S G (ticked-channel K L c)
     ticked-holds L g =
         let few = h .fit .few in
-        holds-fill c (omega (arith, live-length (h .fit), length-aged-le (K .age) (K .older) L (live K c)))
+        holds-fill c (h .setup) (omega (arith, live-length (h .fit), length-aged-le (K .age) (K .older) L (live K c)))
         (all-aged (K .age) (K .older) L g (h .all))
