@@ -10,6 +10,8 @@ use lib.ListN.{length}
 use Rattle.rules.specs.declared.Setup.{Setup}
 use Rattle.rules.specs.declared.DataPacket.{DataPacket}
 use Rattle.rules.specs.declared.AckPacket.{AckPacket}
+use Rattle.rules.specs.declared.DataChannel.{DataChannel}
+use Rattle.rules.specs.declared.AckChannel.{AckChannel}
 use Rattle.rules.specs.declared.Bench.{Bench}
 use Rattle.rules.specs.Numbers.{NS, NC}
 use Rattle.rules.specs.Marks.{marked}
@@ -91,6 +93,13 @@ pub record AckFacts (S : Setup) (g E : ℕ → ℕ) (T : ℕ) (p : AckPacket) : 
   pub edge : p .ack + p .window ≤ E (p .ack)
   pub past : (k : ℕ) → k < p .ack → E k ≤ p .ack + p .window
 
+-- the channels, full of such packets
+abbrev pub DatasHold : Setup → (ℕ → ℕ) → (ℕ → ℕ) → ℕ → DataChannel → Type 0
+DatasHold S log h T = Holds data-channel of-datas S (DataFacts S log h T)
+
+abbrev pub AcksHold : Setup → (ℕ → ℕ) → (ℕ → ℕ) → ℕ → AckChannel → Type 0
+AcksHold S g E T = Holds ack-channel of-acks S (AckFacts S g E T)
+
 -- ---- the invariant
 pub record Setups (S s r : Setup) : Type 0 where
   pub sender : s ≡ S
@@ -108,8 +117,8 @@ pub record Inv (S : Setup) (log : ℕ → ℕ) (b : Bench) : Type 0 where
   pub nums : Nums S past (b .sender .una) (b .sender .outstanding) (b .sender .granted) (b .sender .accepted)
       (b .receiver .nxt) (b .receiver .window)
   pub edges : Edges (past .E) (b .receiver .nxt) (b .receiver .window)
-  pub datas : Holds data-channel of-datas S (DataFacts S log (past .h) (b .sender .clock)) (b .datas)
-  pub acks : Holds ack-channel of-acks S (AckFacts S (past .g) (past .E) (b .receiver .clock)) (b .acks)
+  pub datas : DatasHold S log (past .h) (b .sender .clock) (b .datas)
+  pub acks : AcksHold S (past .g) (past .E) (b .receiver .clock) (b .acks)
   pub r-recent : Kept (S .life) (b .sender .clock) (past .h) (past .m) (b .receiver .recent)
   pub s-recent : Kept (S .life) (b .receiver .clock) (past .g) (b .sender .una) (b .sender .recent)
   pub marks : Marks (S .window) log (b .receiver .nxt) (end b) (b .receiver .window) (b .receiver .slots) (b .receiver .marks)

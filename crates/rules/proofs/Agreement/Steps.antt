@@ -22,11 +22,11 @@ use Rattle.rules.specs.Fit.{FitSetup}
 use Rattle.rules.specs.Events.{Out, refused, done, older, with-unit, accepting, packet-of, bench-send, adding, dropping, copying, ack-of, opening, opened, bench-tick, ticked-channel, on-sender, on-receiver, on-datas, on-acks, accept}
 use Rattle.rules.specs.Runs.{took}
 use Rattle.rules.specs.Agreement.{wrap-recent, wrap-sender, wrap-receiver, wrap-data, wrap-ack, wrap-datas, wrap-acks, wrap}
-use Rattle.rules.proofs.Agreement.Cases.{on-le, on-bool}
+use Rattle.rules.proofs.Agreement.Cases.{on-le, on-bool, either}
 use Rattle.rules.proofs.Agreement.Way.{Falls, Sent, Kept, push, now, falls-mono, sent-high, falls-push, kept-push, sent-push, falls-now, sent-now, kept-now}
 use Rattle.rules.proofs.Agreement.Ring.{marks-grow, stored-accept}
 use Rattle.rules.proofs.Agreement.Channels.{Proper, shown, Alike, Shows, shows-datas, shows-acks, Holds, holds-imply, adding-alike, dropping-alike, copying-alike, ticked-shown, ticked-holds}
-use Rattle.rules.proofs.Agreement.State.{Wide, Past, Line, line-g, Nums, Edges, DataFacts, AckFacts, Setups, Inv, end, stretch, Gave, Good, Goods, nothing}
+use Rattle.rules.proofs.Agreement.State.{Wide, Past, Line, line-g, Nums, Edges, DataFacts, AckFacts, DatasHold, AcksHold, Setups, Inv, end, stretch, Gave, Good, Goods, nothing}
 
 -- a number and the same number round NS have the same slot
 pub slot-round : {S : Setup} → Wide S → (x : ℕ) → x % NS S % S .window ≡ x % S .window
@@ -105,3 +105,177 @@ module _ (S : Setup) (v : Wide S) (log : ℕ → ℕ) where
             head = i .head;
             stored = stored-accept (i .stored) u (omega arith) eu;
           }
+
+  -- ---- an event of a channel
+  module _ {b : Bench} (i : Inv S log b) where
+    abbrev pub with-datas : {c : DataChannel} → DatasHold S log (i .past .h) (b .sender .clock) c
+        → Inv S log (record { sender = b .sender; receiver = b .receiver; datas = c; acks = b .acks })
+    with-datas h = record {
+      past = i .past;
+      setups = i .setups;
+      line = i .line;
+      nums = i .nums;
+      edges = i .edges;
+      datas = h;
+      acks = i .acks;
+      r-recent = i .r-recent;
+      s-recent = i .s-recent;
+      marks = i .marks;
+      head = i .head;
+      stored = i .stored;
+    }
+
+    abbrev pub with-acks : {c : AckChannel} → AcksHold S (i .past .g) (i .past .E) (b .receiver .clock) c
+        → Inv S log (record { sender = b .sender; receiver = b .receiver; datas = b .datas; acks = c })
+    with-acks h = record {
+      past = i .past;
+      setups = i .setups;
+      line = i .line;
+      nums = i .nums;
+      edges = i .edges;
+      datas = i .datas;
+      acks = h;
+      r-recent = i .r-recent;
+      s-recent = i .s-recent;
+      marks = i .marks;
+      head = i .head;
+      stored = i .stored;
+    }
+
+    pub good-datas : {w z : Out DataChannel}
+        → Alike (wrap-datas S) (DatasHold S log (i .past .h) (b .sender .clock)) w z
+        → Goods S log b nothing (on-datas (wrap S b) w) (on-datas b z)
+    good-datas a = record {
+      same = ap (on-datas (wrap S b)) (a .same);
+      kept = with-datas (a .kept);
+      gave = record { list = rw (a .silent); moved = rw (a .silent) (omega arith) };
+      grew = omega arith;
+      proper = a .proper;
+    }
+
+    pub good-acks : {w z : Out AckChannel}
+        → Alike (wrap-acks S) (AcksHold S (i .past .g) (i .past .E) (b .receiver .clock)) w z
+        → Goods S log b nothing (on-acks (wrap S b) w) (on-acks b z)
+    good-acks a = record {
+      same = ap (on-acks (wrap S b)) (a .same);
+      kept = with-acks (a .kept);
+      gave = record { list = rw (a .silent); moved = rw (a .silent) (omega arith) };
+      grew = omega arith;
+      proper = a .proper;
+    }
+
+  -- ---- send
+  pub good-send : (k : ℕ) (b : Bench) → Inv S log b
+      → Goods S log b nothing (bench-send (wrapped S) S k (wrap S b)) (bench-send (whole S) S k b)
+  good-send k b i =
+      on-le (Goods S log b nothing) (b .sender .outstanding) k refl
+      (λ _. stays i 4 (record { formed = omega arith; near = omega arith }))
+      (λ lt. good-datas i (adding-alike (shows-datas S) (i .datas)
+      (packet-of (wrapped S) S k (wrap-sender S (b .sender))) (packet-of (whole S) S k (b .sender))
+      (rw (mod-add-mod (b .sender .una) (NS S) k, slot-round v (b .sender .una + k)))
+      (record {
+        unit = i .stored .value k lt;
+        sent = record { young = omega arith; dated = omega arith; low = omega (arith, i .line .fall .down 0); high = omega arith };
+      })))
+
+  -- ---- ack
+  pub good-ack : (b : Bench) → Inv S log b
+      → Goods S log b nothing (on-acks (wrap S b) (adding ack-channel (ack-of (wrap-receiver S (b .receiver))) (wrap-acks S (b .acks))))
+      (on-acks b (adding ack-channel (ack-of (b .receiver)) (b .acks)))
+  good-ack b i =
+      good-acks i (adding-alike (shows-acks S) (i .acks) (ack-of (wrap-receiver S (b .receiver))) (ack-of (b .receiver)) refl
+      (record {
+        sent = record { young = omega arith; dated = omega arith; low = omega (arith, i .line .down 0); high = omega arith };
+        most = omega arith;
+        edge = omega (arith, i .edges .now (b .receiver .nxt) (omega arith));
+        past = λ k lt. i .edges .top k;
+      }))
+
+  -- ---- room: the edge now is one further
+  abbrev further : (ℕ → ℕ) → ℕ → ℕ → ℕ → ℕ
+  further E nxt e k = cond (leb nxt k) e (E k)
+
+  further-now : (E : ℕ → ℕ) (nxt e k : ℕ) → nxt ≤ k → further E nxt e k ≡ e
+  further-now E nxt e k le = rw (le-leb nxt k le)
+
+  further-past : (E : ℕ → ℕ) (nxt e k : ℕ) → k < nxt → further E nxt e k ≡ E k
+  further-past E nxt e k lt = rw (lt-leb nxt k lt)
+
+  further-up : (E : ℕ → ℕ) (nxt e k : ℕ) → E k ≤ e → E k ≤ further E nxt e k
+  further-up E nxt e k le = either (λ (x : ℕ). E k ≤ x) (leb nxt k) (λ _. le) (λ _. omega arith)
+
+  further-top : (E : ℕ → ℕ) (nxt e k : ℕ) → E k ≤ e → further E nxt e k ≤ e
+  further-top E nxt e k le = either (λ (x : ℕ). x ≤ e) (leb nxt k) (λ _. omega arith) (λ _. le)
+
+  pub good-room : (b : Bench) → Inv S log b
+      → Goods S log b nothing (on-receiver (wrap S b) (opening S (wrap-receiver S (b .receiver)))) (on-receiver b (opening S (b .receiver)))
+  good-room b i =
+      on-le (λ (w z : Out Receiver). Goods S log b nothing (on-receiver (wrap S b) w) (on-receiver b z)) (S .window) (b .receiver .window) refl
+      (λ _. stays i 13 (record { formed = omega arith; near = omega arith }))
+      (λ lt.
+      let n : ℕ = b .receiver .nxt in
+      let e : ℕ = n + suc (b .receiver .window) in
+      let F : ℕ → ℕ = further (i .past .E) n e in
+      let up : (k : ℕ) → i .past .E k ≤ F k = λ k. further-up (i .past .E) n e k (omega (arith, i .edges .top k)) in
+      quiet b _ refl refl refl (record {
+        past = record { h = i .past .h; g = i .past .g; E = F; m = i .past .m };
+        setups = i .setups;
+        line = i .line;
+        nums = omega (arith, up (b .sender .una));
+        edges = record {
+          top = λ k. further-top (i .past .E) n e k (omega (arith, i .edges .top k));
+          now = further-now (i .past .E) n e;
+        };
+        datas = i .datas;
+        acks = holds-imply (λ p o. record {
+          sent = o .sent;
+          most = o .most;
+          edge = omega (arith, o .edge, up (p .ack));
+          past = λ k lt. omega (arith, o .past k lt, further-past (i .past .E) n e k (omega (arith, sent-high (line-g (i .line)) (o .sent))));
+        }) (i .acks);
+        r-recent = i .r-recent;
+        s-recent = i .s-recent;
+        marks = marks-grow (omega arith) (omega arith) (i .marks);
+        head = i .head;
+        stored = i .stored;
+      }))
+
+  -- ---- tick
+  older-wrap : (r : Recent) → older (S .life) (wrap-recent S r) ≡ wrap-recent S (older (S .life) r)
+  older-wrap r =
+      on-bool (λ (x y : Recent). x ≡ wrap-recent S y) {c = r .held} refl
+      (λ _. on-bool (λ (x y : Recent). x ≡ wrap-recent S y) {c = leb (suc (r .age)) (S .life)} refl (λ _. refl) (λ _. rw (zero-mod (NC S))))
+      (λ _. rw (zero-mod (NC S)))
+
+  pub good-tick : (b : Bench) → Inv S log b → Goods S log b nothing (bench-tick (wrapped S) S (wrap S b)) (bench-tick (whole S) S b)
+  good-tick b i =
+      quiet b _ refl refl
+      (rw (
+        older-wrap (b .sender .recent),
+        older-wrap (b .receiver .recent),
+        ← suc-mod (b .sender .clock) (NC S),
+        ← suc-mod (b .receiver .clock) (NC S),
+        ticked-shown (shows-datas S) (i .datas) (S .life),
+        ticked-shown (shows-acks S) (i .acks) (S .life),
+      ))
+      (record {
+        past = record { h = push (i .past .h); g = push (i .past .g); E = i .past .E; m = i .past .m };
+        setups = i .setups;
+        line = record {
+          fall = falls-push (i .line .fall);
+          down = λ k. elim k [ zero ↦ omega arith | suc k ↦ i .line .down k ];
+          under = λ k. elim k [ zero ↦ i .line .under 0 | suc k ↦ i .line .under k ];
+          over = λ k. elim k [ zero ↦ i .line .over 0 | suc k ↦ i .line .over k ];
+        };
+        nums = omega arith;
+        edges = i .edges;
+        datas = ticked-holds (shows-datas S) (i .datas) (S .life)
+            (λ p le o. record { unit = o .unit; sent = sent-push le (o .sent) });
+        acks = ticked-holds (shows-acks S) (i .acks) (S .life)
+            (λ p le o. record { sent = sent-push le (o .sent); most = o .most; edge = o .edge; past = o .past });
+        r-recent = kept-push (i .line .fall) (i .r-recent);
+        s-recent = kept-push (line-g (i .line)) (i .s-recent);
+        marks = i .marks;
+        head = i .head;
+        stored = i .stored;
+      })
