@@ -6,3 +6,5 @@ pub mod Ring
 pub mod Channels
 pub mod State
 pub mod Steps
+pub mod Arriving
+pub mod Hearing
