@@ -8,3 +8,6 @@ pub mod State
 pub mod Steps
 pub mod Arriving
 pub mod Hearing
+pub mod Formed
+pub mod Runs
+pub mod Theorem

@@ -4,7 +4,7 @@ use mathlib.Core.Path.{_≡_, refl, sym, _∙_, ap}
 use mathlib.Core.Bool.{Bool, true, false}
 use mathlib.Core.List.{List, [], _∷_, _++_, map}
 use mathlib.Core.Logic.{_≢_}
-use Prim.Native.Nat.{ℕ, suc, _-_, _≤_, _<_}
+use Prim.Native.Nat.{ℕ, zero, suc, _-_, _≤_, _<_}
 use native.Mathlib.Nat.{zero-mod}
 use native.Mathlib.Omega.{arith}
 use lib.Dec.{leb}
@@ -131,6 +131,14 @@ module _ {H P C : Type 0} {K : Channel H P C} {at : C → Setup} {f : P → P} {
     all = rw (live-fill c l) a;
   }
 
+  pub fit-shown : {c : C} → FitChannel K c → FitChannel K (W c)
+  fit-shown {c} h = record {
+    few = rw (k .count c) (h .few);
+    rest = k .packets c ∙ ap (map f) (h .rest)
+        ∙ sym (map-row f (K .new (K .nothing)) (K .new (K .nothing)) (k .nothing) (live K c))
+        ∙ ap (row (K .new (K .nothing))) (sym (live-shown c));
+  }
+
   -- a filled channel, shown
   fill-shown : (c : C) (l : List P) {l′ : List P} → l′ ≡ map f l → K .fill (W c) l′ ≡ W (K .fill c l)
   fill-shown c l e = rw e (k .fill c l)
@@ -209,3 +217,23 @@ module _ {H P C : Type 0} {K : Channel H P C} {at : C → Setup} {f : P → P} {
         let few = h .fit .few in
         holds-fill c (h .setup) (omega (arith, live-length (h .fit), length-aged-le (K .age) (K .older) L (live K c)))
         (all-aged (K .age) (K .older) L g (h .all))
+
+-- ---- no such channel is malformed
+every-replicate : {A : Type 0} (f : A → Bool) (z : A) → f z ≡ true → (n : ℕ) → every f (replicate n z) ≡ true
+unfolding every
+every-replicate f z e zero = refl
+every-replicate f z e (suc n) = e and every-replicate f z e n
+
+every-rest : {A : Type 0} (f : A → Bool) (z : A) → f z ≡ true → (l : List A) (n : ℕ) → n ≡ length l
+    → every f (drop n (row z l)) ≡ true
+unfolding row
+every-rest f z e l n q = rw (q, drop-append-seam l (replicate (32 - length l) z)) (every-replicate f z e (32 - length l))
+
+pub formed-of-fit : {H P C : Type 0} (K : Channel H P C) → K .is-nothing (K .new (K .nothing)) ≡ true
+    → (right : P → Bool) {c : C} → FitChannel K c → All (λ (p : P). right p ≡ true) (live K c) → formed-channel K right c ≡ true
+unfolding formed-channel
+formed-of-fit {P = P} K z right {c} h a =
+    le-leb _ _ (h .few)
+    and every-is right a
+    and (ap (λ (x : List P). every (K .is-nothing) (drop (K .count c) x)) (h .rest)
+    ∙ every-rest (K .is-nothing) (K .new (K .nothing)) z (live K c) (K .count c) (sym (live-length h)))

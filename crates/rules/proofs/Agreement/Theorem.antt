@@ -1,0 +1,116 @@
+-- The theorem of agreement: the invariant holds of the fresh bench, so every run from it is as the statement says.
+use mathlib.Core.Path.{_≡_, refl, sym, _∙_, ap}
+use mathlib.Core.Bool.{Bool, true, false, not}
+use mathlib.Core.List.{List, [], _∷_}
+use Prim.Native.Nat.{ℕ, zero, suc, _+_, _-_, _%_, _≤_, _<_}
+use native.Mathlib.Nat.{zero-mod, mod-eq-of-lt, add-zero}
+use native.Mathlib.Omega.{arith}
+use lib.ListN.{length, getD, take, replicate}
+use borrow.Author.Tests.{ne-eqb}
+use Rattle.rules.specs.declared.Setup.{Setup}
+use Rattle.rules.specs.declared.Bench.{Bench}
+use Rattle.rules.specs.Numbers.{wrapped, whole, NS, NC}
+use Rattle.rules.specs.Setups.{_also_, admitted}
+use Rattle.rules.specs.Marks.{marked}
+use Rattle.rules.specs.Parts.{fresh-bench, fresh-data-channel, fresh-ack-channel, data-channel, ack-channel}
+use Rattle.rules.specs.Events.{Event}
+use Rattle.rules.specs.Runs.{Said, run, final, accepted, delivered}
+use Rattle.rules.specs.Malformed.{every}
+use Rattle.rules.specs.Agreement.{wrap, Ordered, proper, Agree, Agreement}
+use Rattle.rules.proofs.Tests.{_and_}
+use Rattle.rules.proofs.Marks.{unmarked-zero, clash}
+use Rattle.rules.proofs.Fits.{Limits, limits}
+use Rattle.rules.proofs.Agreement.Lists.{All, done, more, all-imply, every-is}
+use Rattle.rules.proofs.Agreement.Way.{Kept, gone}
+use Rattle.rules.proofs.Agreement.Ring.{Idle}
+use Rattle.rules.proofs.Agreement.Channels.{Proper, Shows, shows-datas, shows-acks, holds-fill}
+use Rattle.rules.proofs.Agreement.State.{Wide, wide, Inv, end, stretch}
+use Rattle.rules.proofs.Agreement.Runs.{take-stretch, log-of, log-of-stretch, Ran, ran}
+
+-- ---- fresh
+zeros : (n i : ℕ) → _≡_ {A = ℕ} (getD (replicate n 0) i 0) 0
+zeros zero i = refl
+zeros (suc n) zero = refl
+zeros (suc n) (suc i) = zeros n i
+
+fresh-inv : (S : Setup) → Wide S → (log : ℕ → ℕ) → Inv S log (fresh-bench S)
+fresh-inv S v log = record {
+  past = record { h = λ _. S .seq; g = λ _. S .seq; E = λ _. S .seq; m = S .seq };
+  setups = record { sender = refl; receiver = refl };
+  line = omega arith;
+  nums = omega arith;
+  edges = omega arith;
+  datas = holds-fill (shows-datas S) (fresh-data-channel S) refl (omega arith) done;
+  acks = holds-fill (shows-acks S) (fresh-ack-channel S) refl (omega arith) done;
+  r-recent = gone (omega arith);
+  s-recent = gone (omega arith);
+  marks = record {
+    idle = idle;
+    within = record { near = λ d lt e. absurd (clash (unmarked-zero _) e) };
+    known = λ d lt e. absurd (clash (unmarked-zero _) e);
+    value = λ d lt e. absurd (clash (unmarked-zero _) e);
+    empty = λ d lt e. zeros 64 ((S .seq + d) % S .window);
+    unmarked = λ i le lt. unmarked-zero i;
+  };
+  head = unmarked-zero (S .seq % S .window);
+  stored = record { idle = idle; value = λ d lt. absurd (omega arith); empty = λ d le lt. zeros 64 ((S .seq + d) % S .window) };
+}
+  where
+    idle : Idle (S .window) (replicate 64 0)
+    idle = record { size = v .fit .most; rest = λ i le lt. zeros 64 i }
+
+-- a fresh bench is shown as it is
+fresh-wrap : (S : Setup) → Limits S → wrap S (fresh-bench S) ≡ fresh-bench S
+fresh-wrap S a =
+    rw (
+      mod-eq-of-lt (a .seq-in),
+      mod-eq-of-lt (a .sclock-in),
+      mod-eq-of-lt (a .rclock-in),
+      zero-mod (NC S),
+      ← shows-datas S .fill (fresh-data-channel S) [],
+      ← shows-acks S .fill (fresh-ack-channel S) [],
+    )
+
+-- ---- the theorem
+is-proper : (a : Said) → Proper (a .answer) → proper a ≡ true
+unfolding proper
+is-proper a q = ap not (ne-eqb _ 2 (q .formed)) and ap not (ne-eqb _ 11 (q .near))
+
+module _ (S : Setup) (adm : admitted S ≡ true) (es : List Event) where
+  units : List ℕ
+  units = accepted es (run whole es (fresh-bench S))
+
+  log : ℕ → ℕ
+  log = log-of units (S .seq)
+
+  of-fresh : Ran S adm (wide (limits S adm)) log es (fresh-bench S)
+  unfolding units log
+  of-fresh =
+      ran S adm (wide (limits S adm)) log es (fresh-bench S) (fresh-inv S (wide (limits S adm)) log)
+      (rw (add-zero (S .seq)) (log-of-stretch units (S .seq)))
+
+pub agreement : Agreement
+unfolding units log
+agreement S adm es = record {
+  answers = same;
+  state = sym (ap (final wrapped es) fresh) ∙ r .last;
+  prefix = rw same (r .gave .list ∙ sym (ap (take n) (log-of-stretch acc (S .seq)) ∙ take-stretch _ (S .seq) n (length acc)
+      (omega (arith, r .gave .moved, r .grew, r .kept .nums .nxt-end))));
+  order = omega (arith, r .kept .nums);
+  never = rw same (every-is proper (all-imply is-proper (r .proper)));
+}
+  where
+    r : Ran S adm (wide (limits S adm)) (log S adm es) es (fresh-bench S)
+    r = of-fresh S adm es
+
+    fresh : wrap S (fresh-bench S) ≡ fresh-bench S
+    fresh = fresh-wrap S (limits S adm)
+
+    same : run wrapped es (fresh-bench S) ≡ run whole es (fresh-bench S)
+    same = sym (ap (run wrapped es) fresh) ∙ r .same
+
+    acc : List ℕ
+    acc = accepted es (run whole es (fresh-bench S))
+
+    n : ℕ
+    n = length (delivered (run whole es (fresh-bench S)))
