@@ -5,4 +5,6 @@ pub mod Wrap
 pub mod Marks
 pub mod Fits
 pub mod Session
+pub mod Examples
+pub mod Tight
 pub mod Agreement

@@ -130,7 +130,7 @@ module _ (S : Setup) (v : Wide S) (log : ℕ → ℕ) where
           };
           gave = r .gave;
           grew = omega arith;
-          proper = record { formed = omega arith; near = omega arith };
+          proper = omega arith;
         }
 
     good-store : {l : Place} → View (S .window) (p .seq) (b .receiver .nxt) l
@@ -138,12 +138,12 @@ module _ (S : Setup) (v : Wide S) (log : ℕ → ℕ) where
         (stored (wrapped S) S (bare-data (wrap-data S p)) (wrap-receiver S (b .receiver))) l)
         (may-store (whole S) S (bare-data p) (b .receiver) (refused (b .receiver)) (stored (whole S) S (bare-data p) (b .receiver)) l)
     unfolding G
-    good-store back = stays S v log i 10 (record { formed = omega arith; near = omega arith })
+    good-store back = stays S v log i 10 (omega arith)
     good-store (fore d e lt) =
         on-le G (b .receiver .window) d refl
         (λ beyond. absurd (omega (arith, accepted-before, i .edges .top (b .sender .una))))
         (λ win. on-bool G (ap (marked (b .receiver .marks)) (slot-round v (p .seq)))
-        (λ _. stays S v log i 12 (record { formed = omega arith; near = omega arith }))
+        (λ _. stays S v log i 12 (omega arith))
         (λ _.
         let sl = set (b .receiver .slots) (p .seq % S .window) (p .unit) in
         let mk = mark (b .receiver .marks) (p .seq % S .window) in
@@ -176,16 +176,16 @@ module _ (S : Setup) (v : Wide S) (log : ℕ → ℕ) where
         (omega (arith, accepted-before, i .edges .top (b .sender .una)))
         (omega (arith, v .seqs, distance (i .line .fall) S (o .sent) (i .r-recent) pass)))
         (good-store (view (S .window) (p .seq) (b .receiver .nxt))))
-        (λ _. stays S v log i 9 (record { formed = omega arith; near = omega arith }))
+        (λ _. stays S v log i 9 (omega arith))
 
   pub good-data : (j n : ℕ) (b : Bench) → Inv S log b
       → Goods S log b nothing (bench-data (wrapped S) S j n (wrap S b)) (bench-data (whole S) S j n b)
   unfolding G
   good-data j n b i =
       on-bool (Goods S log b nothing) {c = ltb n (S .window)} refl
-      (λ _. stays S v log i 8 (record { formed = omega arith; near = omega arith }))
+      (λ _. stays S v log i 8 (omega arith))
       (λ _. on-le (Goods S log b nothing) (b .datas .count) j refl
-      (λ _. stays S v log i 4 (record { formed = omega arith; near = omega arith }))
+      (λ _. stays S v log i 4 (omega arith))
       (λ lt. rw (packet-at-shown (shows-datas S) (i .datas) j lt, removed-shown (shows-datas S) (i .datas) j)
       (good-arriving (packet-at data-channel j (b .datas)) (without-data j b)
       (with-datas S v log i (removed-holds (shows-datas S) (i .datas) j)) (packet-at-holds (shows-datas S) (i .datas) j lt))))

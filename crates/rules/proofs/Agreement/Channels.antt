@@ -169,7 +169,7 @@ module _ {H P C : Type 0} {K : Channel H P C} {at : C → Setup} {f : P → P} {
       same = ap (λ (x : C). refused x 0) (fill-shown c (live K c ++ p ∷ []) (rw (live-shown c, map-add f (live K c) p, e)));
       kept = holds-fill c (h .setup) (omega (arith, live-length (h .fit), length-append (live K c) (p ∷ []))) (all-add (h .all) o);
       silent = refl;
-      proper = record { formed = omega arith; near = omega arith };
+      proper = omega arith;
     }
 
     no : (n : ℕ) → Proper n → Alike W (Holds K at S F) (refused (W c) n) (refused c n)
@@ -184,26 +184,26 @@ module _ {H P C : Type 0} {K : Channel H P C} {at : C → Setup} {f : P → P} {
     pub adding-alike : (p′ p : H) → K .new p′ ≡ f (K .new p) → F (K .new p) → Alike W (Holds K at S F) (adding K p′ (W c)) (adding K p c)
     adding-alike p′ p e o =
         on-le (Alike W (Holds K at S F)) 32 (K .count c) (counts 32)
-        (λ _. no 5 (record { formed = omega arith; near = omega arith }))
+        (λ _. no 5 (omega arith))
         (λ lt. added (K .new p′) (K .new p) e o lt)
 
     pub dropping-alike : (j : ℕ) → Alike W (Holds K at S F) (dropping K j (W c)) (dropping K j c)
     dropping-alike j =
         on-le (Alike W (Holds K at S F)) (K .count c) j (counted j)
-        (λ _. no 4 (record { formed = omega arith; near = omega arith }))
+        (λ _. no 4 (omega arith))
         (λ _. record {
           same = ap (λ (x : C). refused x 0) (removed-shown j);
           kept = removed-holds j;
           silent = refl;
-          proper = record { formed = omega arith; near = omega arith };
+          proper = omega arith;
         })
 
     pub copying-alike : (j : ℕ) → Alike W (Holds K at S F) (copying K j (W c)) (copying K j c)
     copying-alike j =
         on-le (Alike W (Holds K at S F)) (K .count c) j (counted j)
-        (λ _. no 4 (record { formed = omega arith; near = omega arith }))
+        (λ _. no 4 (omega arith))
         (λ here. on-le (Alike W (Holds K at S F)) 32 (K .count c) (counts 32)
-        (λ _. no 5 (record { formed = omega arith; near = omega arith }))
+        (λ _. no 5 (omega arith))
         (λ lt. added (packet-at K j (W c)) (packet-at K j c) (packet-at-shown j here) (packet-at-holds j here) lt))
 
     pub ticked-shown : (L : ℕ) → ticked-channel K L (W c) ≡ W (ticked-channel K L c)

@@ -89,7 +89,7 @@ module _ (S : Setup) (v : Wide S) (log : ℕ → ℕ) where
         (λ o. done (heard (wrapped S) S (bare-ack (wrap-ack S p)) (wrap-sender S (b .sender)) o)) l)
         (may-free (whole S) S (b .sender) (refused (b .sender)) (λ o. done (heard (whole S) S (bare-ack p) (b .sender) o)) l)
     unfolding G
-    good-free back = stays S v log i 10 (record { formed = omega arith; near = omega arith })
+    good-free back = stays S v log i 10 (omega arith)
     good-free (fore o e lt) =
         on-le G o (b .sender .outstanding) refl (λ le. good-heard o e le) (λ beyond. absurd (omega (arith, up-to-nxt)))
 
@@ -102,14 +102,14 @@ module _ (S : Setup) (v : Wide S) (log : ℕ → ℕ) where
         (omega (arith, up-to-nxt))
         (omega (arith, v .seqs, v .fit .some, distance (line-g (i .line)) S (f .sent) (i .s-recent) pass)))
         (good-free (view (suc (S .window)) (p .ack) (b .sender .una))))
-        (λ _. stays S v log i 9 (record { formed = omega arith; near = omega arith }))
+        (λ _. stays S v log i 9 (omega arith))
 
   pub good-hear : (j : ℕ) (b : Bench) → Inv S log b
       → Goods S log b nothing (bench-hear (wrapped S) S j (wrap S b)) (bench-hear (whole S) S j b)
   unfolding G
   good-hear j b i =
       on-le (Goods S log b nothing) (b .acks .count) j refl
-      (λ _. stays S v log i 4 (record { formed = omega arith; near = omega arith }))
+      (λ _. stays S v log i 4 (omega arith))
       (λ lt. rw (packet-at-shown (shows-acks S) (i .acks) j lt, removed-shown (shows-acks S) (i .acks) j)
       (good-hearing (packet-at ack-channel j (b .acks)) (without-ack j b)
       (with-acks S v log i (removed-holds (shows-acks S) (i .acks) j)) (packet-at-holds (shows-acks S) (i .acks) j lt)))

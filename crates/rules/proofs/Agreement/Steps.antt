@@ -56,7 +56,7 @@ module _ (S : Setup) (v : Wide S) (log : ℕ → ℕ) where
     kept = i;
     gave = record { list = refl; moved = omega arith };
     grew = omega arith;
-    proper = record { formed = omega arith; near = omega arith };
+    proper = omega arith;
   }
 
   -- ---- accept
@@ -67,15 +67,15 @@ module _ (S : Setup) (v : Wide S) (log : ℕ → ℕ) where
       (on-sender b (accepting (whole S) S u (b .sender)))
   good-accept u b i =
       on-le P (b .sender .granted) (b .sender .outstanding) refl
-      (λ _ _. left i 6 (record { formed = omega arith; near = omega arith }) (took (accept u)) refl)
+      (λ _ _. left i 6 (omega arith) (took (accept u)) refl)
       (λ room. on-le P (S .rate) (b .sender .accepted) refl
-      (λ _ _. left i 7 (record { formed = omega arith; near = omega arith }) (took (accept u)) refl)
+      (λ _ _. left i 7 (omega arith) (took (accept u)) refl)
       (λ share eu. record {
         same = rw (mod-add-mod (b .sender .una) (NS S) (b .sender .outstanding), slot-round v (end b));
         kept = kept room share (eu refl);
         gave = record { list = refl; moved = omega arith };
         grew = omega arith;
-        proper = record { formed = omega arith; near = omega arith };
+        proper = omega arith;
       }))
     where
       P : Out Sender → Out Sender → Type 0
@@ -169,7 +169,7 @@ module _ (S : Setup) (v : Wide S) (log : ℕ → ℕ) where
       → Goods S log b nothing (bench-send (wrapped S) S k (wrap S b)) (bench-send (whole S) S k b)
   good-send k b i =
       on-le (Goods S log b nothing) (b .sender .outstanding) k refl
-      (λ _. stays i 4 (record { formed = omega arith; near = omega arith }))
+      (λ _. stays i 4 (omega arith))
       (λ lt. good-datas i (adding-alike (shows-datas S) (i .datas)
       (packet-of (wrapped S) S k (wrap-sender S (b .sender))) (packet-of (whole S) S k (b .sender))
       (rw (mod-add-mod (b .sender .una) (NS S) k, slot-round v (b .sender .una + k)))
@@ -211,7 +211,7 @@ module _ (S : Setup) (v : Wide S) (log : ℕ → ℕ) where
       → Goods S log b nothing (on-receiver (wrap S b) (opening S (wrap-receiver S (b .receiver)))) (on-receiver b (opening S (b .receiver)))
   good-room b i =
       on-le (λ (w z : Out Receiver). Goods S log b nothing (on-receiver (wrap S b) w) (on-receiver b z)) (S .window) (b .receiver .window) refl
-      (λ _. stays i 13 (record { formed = omega arith; near = omega arith }))
+      (λ _. stays i 13 (omega arith))
       (λ lt.
       let n : ℕ = b .receiver .nxt in
       let e : ℕ = n + suc (b .receiver .window) in
