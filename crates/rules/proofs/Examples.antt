@@ -2,16 +2,15 @@
 -- timestamps as plain numbers is refused by row (j) of the marked examples.)
 use mathlib.Core.Path.{_≡_, refl}
 use mathlib.Core.List.{List, [], _∷_, map}
-use Prim.Native.Nat.{ℕ}
 use Rattle.rules.specs.Numbers.{dist, wrapped}
 use Rattle.rules.specs.Setups.{_also_, is-window, in-limits, in-ranges, admitted, same-setup}
 use Rattle.rules.specs.Marks.{marked, mark, unmark}
 use Rattle.rules.specs.Rows.{row}
 use Rattle.rules.specs.Parts.{is-no-data, is-no-ack, fresh-bench}
 use Rattle.rules.specs.Malformed.{all-from, every, formed-recent, formed-sender, formed-receiver, right-data, right-ack, formed-data, formed-ack, formed-channel, formed-bench, malformed-bench}
-use Rattle.rules.specs.Events.{Event, accept, send, arrive, room, acknowledge, hear, dropd, dropa, dupd, dupa, tick, act}
+use Rattle.rules.specs.Events.{Event, accept, send, arrive, room, acknowledge, hear, dupd, tick, act}
 use Rattle.rules.specs.Operations.{step}
-use Rattle.rules.specs.Runs.{Said, run}
+use Rattle.rules.specs.Runs.{run}
 use Rattle.rules.proofs.Session.{S, only}
 
 -- a unit sent earlier than a later one, and arriving after it, is taken: recent is not set by the later one, which is stored ahead

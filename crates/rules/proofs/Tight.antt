@@ -2,7 +2,7 @@
 -- setup here is refused, and admitted with its rate or life one less; the runs set aside the tests for admission and for malformed
 -- states, and are computed.
 use mathlib.Core.Path.{_≡_, refl}
-use mathlib.Core.Bool.{Bool, true, false}
+use mathlib.Core.Bool.{true, false}
 use mathlib.Core.List.{List, [], _∷_}
 use Prim.Native.Nat.{ℕ}
 use Rattle.rules.specs.declared.Setup.{Setup}

@@ -1,12 +1,12 @@
 -- Data arriving: the test and the place come out alike on both machines, and what is stored or delivered keeps the invariant. Here
 -- the distance of a packet that passes meets the range of the numbers.
-use mathlib.Core.Path.{_≡_, refl, sym, _∙_, ap}
+use mathlib.Core.Path.{_≡_, refl, _∙_, ap}
 use mathlib.Core.Bool.{Bool, true, false}
 use mathlib.Core.List.{List, [], _∷_}
-use Prim.Native.Nat.{ℕ, zero, suc, _+_, _-_, _*_, _%_, _≤_, _<_}
+use Prim.Native.Nat.{ℕ, zero, suc, _+_, _-_, _%_, _≤_, _<_}
 use native.Mathlib.Nat.{add-zero, sub-zero, suc-mod}
 use native.Mathlib.Omega.{arith}
-use lib.Dec.{leb, ltb}
+use lib.Dec.{ltb}
 use lib.ListN.{length, getD, set}
 use Rattle.rules.specs.declared.Setup.{Setup}
 use Rattle.rules.specs.declared.Receiver.{Receiver}
@@ -19,10 +19,10 @@ use Rattle.rules.specs.Events.{Out, refused, Delivery, deliver, may-stor
 use Rattle.rules.specs.Agreement.{wrap-receiver, wrap-data, wrap}
 use Rattle.rules.proofs.Wrap.{place-agree, View, back, fore, view}
 use Rattle.rules.proofs.Agreement.Cases.{on-bool, on-le, on-eq}
-use Rattle.rules.proofs.Agreement.Way.{Sent, Kept, now, distance, sent-high, sent-now, kept-now, kept-set, passed-agree}
+use Rattle.rules.proofs.Agreement.Way.{now, distance, sent-high, sent-now, kept-now, kept-set, passed-agree}
 use Rattle.rules.proofs.Agreement.Ring.{Marks, marks-store, marks-next, head-stays}
-use Rattle.rules.proofs.Agreement.Channels.{Proper, shown, shows-datas, holds-imply, packet-at-shown, packet-at-holds, removed-shown, removed-holds}
-use Rattle.rules.proofs.Agreement.State.{Wide, Past, Line, line-g, Nums, Edges, DataFacts, AckFacts, Inv, end, Gave, Good, Goods, nothing}
+use Rattle.rules.proofs.Agreement.Channels.{shows-datas, holds-imply, packet-at-shown, packet-at-holds, removed-shown, removed-holds}
+use Rattle.rules.proofs.Agreement.State.{Wide, DataFacts, Inv, end, Gave, Goods, nothing}
 use Rattle.rules.proofs.Agreement.Steps.{slot-round, stays, quiet, with-datas}
 
 -- ---- a delivery, on both machines

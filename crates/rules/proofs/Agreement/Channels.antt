@@ -1,21 +1,17 @@
 -- What the events do to a channel, on wrapped and on whole numbers alike. One set of laws over either channel: `Shows` says what
 -- they need to know of it and of the way its packets are shown, and `Holds` that each packet in it has a fact.
 use mathlib.Core.Path.{_≡_, refl, sym, _∙_, ap}
-use mathlib.Core.Bool.{Bool, true, false}
+use mathlib.Core.Bool.{Bool, true}
 use mathlib.Core.List.{List, [], _∷_, _++_, map}
 use mathlib.Core.Logic.{_≢_}
 use Prim.Native.Nat.{ℕ, zero, suc, _-_, _≤_, _<_}
 use native.Mathlib.Nat.{zero-mod}
 use native.Mathlib.Omega.{arith}
 use lib.Dec.{leb}
-use lib.ListN.{length, getD, take, drop, replicate, length-map, length-take, length-append}
+use lib.ListN.{length, drop, replicate, length-map, length-take, length-append}
 use lib.Seq.{drop-append-seam}
 use borrow.Author.Tests.{le-leb}
 use Rattle.rules.specs.declared.Setup.{Setup}
-use Rattle.rules.specs.declared.BareData.{BareData}
-use Rattle.rules.specs.declared.BareAck.{BareAck}
-use Rattle.rules.specs.declared.DataPacket.{DataPacket}
-use Rattle.rules.specs.declared.AckPacket.{AckPacket}
 use Rattle.rules.specs.declared.DataChannel.{DataChannel}
 use Rattle.rules.specs.declared.AckChannel.{AckChannel}
 use Rattle.rules.specs.Numbers.{NS, NC}
@@ -28,7 +24,7 @@ use Rattle.rules.specs.Agreement.{wrap-data, wrap-ack, wrap-datas, wrap-
 use Rattle.rules.proofs.Tests.{_and_}
 use Rattle.rules.proofs.Rows.{live-row, length-row}
 use Rattle.rules.proofs.Agreement.Cases.{on-le}
-use Rattle.rules.proofs.Agreement.Lists.{All, done, more, all-add, all-remove, all-getD, all-imply, all-aged, every-is, map-add, map-remove, map-getD, map-aged, map-take, map-row, length-remove-le, length-aged-le}
+use Rattle.rules.proofs.Agreement.Lists.{All, all-add, all-remove, all-getD, all-imply, all-aged, every-is, map-add, map-remove, map-getD, map-aged, map-take, map-row, length-remove-le, length-aged-le}
 
 -- ---- an answer of a run from fresh
 pub record Proper (n : ℕ) : Type 0 where

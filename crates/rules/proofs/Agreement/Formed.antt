@@ -1,12 +1,11 @@
 -- No state of the invariant is malformed, on wrapped numbers or on whole ones: refusal 2 never comes up, and an event is its rule.
-use mathlib.Core.Path.{_≡_, refl, sym, _∙_, ap}
-use mathlib.Core.Bool.{Bool, true, false, cond, not}
-use mathlib.Core.List.{List, [], _∷_}
+use mathlib.Core.Path.{_≡_, refl, _∙_, ap}
+use mathlib.Core.Bool.{Bool, true, false, not}
 use Prim.Native.Nat.{ℕ, zero, suc, _+_, _-_, _%_, _≤_, _<_}
 use native.Mathlib.Nat.{mod-lt, zero-mod, add-zero}
 use native.Mathlib.Omega.{arith}
 use lib.Pow.{pow-pos}
-use lib.Dec.{leb, ltb, eqb}
+use lib.Dec.{ltb}
 use lib.ListN.{getD}
 use borrow.Author.Tests.{le-leb, lt-ltb, eq-eqb}
 use Rattle.rules.specs.declared.Setup.{Setup}
@@ -20,8 +19,8 @@ use Rattle.rules.specs.Numbers.{NS, NC, Arith, wrapped, whole}
 use Rattle.rules.specs.Setups.{_also_, admitted, same-setup}
 use Rattle.rules.specs.Marks.{marked}
 use Rattle.rules.specs.Parts.{is-no-data, is-no-ack, live, data-channel, ack-channel}
-use Rattle.rules.specs.Malformed.{all-from, formed-recent, formed-sender, formed-receiver, right-data, right-ack, formed-data, formed-ack, formed-channel, formed-bench, malformed-bench}
-use Rattle.rules.specs.Events.{Event, refused, act}
+use Rattle.rules.specs.Malformed.{all-from, formed-recent, formed-sender, formed-receiver, right-data, right-ack, formed-data, formed-ack, formed-bench, malformed-bench}
+use Rattle.rules.specs.Events.{Event, act}
 use Rattle.rules.specs.Operations.{step}
 use Rattle.rules.specs.Agreement.{wrap-recent, wrap-data, wrap-ack, wrap-sender, wrap-receiver, wrap-datas, wrap-acks, wrap}
 use Rattle.rules.proofs.Tests.{_and_}
@@ -31,7 +30,7 @@ use Rattle.rules.proofs.Agreement.Lists.{All, all-imply, all-map}
 use Rattle.rules.proofs.Agreement.Way.{Kept, gone, held}
 use Rattle.rules.proofs.Agreement.Ring.{Marks, Stored}
 use Rattle.rules.proofs.Agreement.Channels.{shows-datas, shows-acks, live-shown, fit-shown, formed-of-fit}
-use Rattle.rules.proofs.Agreement.State.{Wide, DataFacts, AckFacts, Inv}
+use Rattle.rules.proofs.Agreement.State.{Wide, Inv}
 
 -- ---- tests that hold
 all-is : (f : ℕ → Bool) (i k : ℕ) → ((x : ℕ) → i ≤ x → x < i + k → f x ≡ true) → all-from f i k ≡ true

@@ -1,27 +1,25 @@
 -- An acknowledgement heard: the test and the place come out alike on both machines, and what is granted and freed keeps the
 -- invariant.
-use mathlib.Core.Path.{_≡_, refl, sym, _∙_, ap}
-use mathlib.Core.Bool.{Bool, true, false}
-use mathlib.Core.List.{List, [], _∷_}
-use Prim.Native.Nat.{ℕ, zero, suc, _+_, _-_, _*_, _%_, _≤_, _<_, max}
+use mathlib.Core.Path.{_≡_, refl, ap}
+use mathlib.Core.List.{List}
+use Prim.Native.Nat.{ℕ, zero, suc, _+_, _-_, _%_, _≤_}
 use native.Mathlib.Nat.{add-zero, zero-add, add-suc, suc-add, suc-mod, mod-add-mod}
 use native.Mathlib.Omega.{arith}
-use lib.Dec.{leb}
 use lib.ListN.{set}
 use Rattle.rules.specs.declared.Setup.{Setup}
 use Rattle.rules.specs.declared.Sender.{Sender}
 use Rattle.rules.specs.declared.AckPacket.{AckPacket}
 use Rattle.rules.specs.declared.Bench.{Bench}
-use Rattle.rules.specs.Numbers.{wrapped, whole, NS, NC, Place}
+use Rattle.rules.specs.Numbers.{wrapped, whole, NS, Place}
 use Rattle.rules.specs.Parts.{ack-channel, bare-ack}
 use Rattle.rules.specs.Events.{Out, refused, done, freed, may-free, heard, hearing, packet-at, without-ack, on-sender, bench-hear}
 use Rattle.rules.specs.Agreement.{wrap-sender, wrap-ack, wrap}
 use Rattle.rules.proofs.Wrap.{place-agree, View, back, fore, view}
 use Rattle.rules.proofs.Agreement.Cases.{on-bool, on-le, on-eq}
-use Rattle.rules.proofs.Agreement.Way.{Sent, Kept, distance, sent-high, kept-set, passed-agree}
+use Rattle.rules.proofs.Agreement.Way.{distance, sent-high, kept-set, passed-agree}
 use Rattle.rules.proofs.Agreement.Ring.{Stored, stored-free}
-use Rattle.rules.proofs.Agreement.Channels.{Proper, shown, shows-acks, packet-at-shown, packet-at-holds, removed-shown, removed-holds}
-use Rattle.rules.proofs.Agreement.State.{Wide, Past, Line, line-g, Nums, Edges, DataFacts, AckFacts, Inv, end, Gave, Good, Goods, nothing}
+use Rattle.rules.proofs.Agreement.Channels.{shows-acks, packet-at-shown, packet-at-holds, removed-shown, removed-holds}
+use Rattle.rules.proofs.Agreement.State.{Wide, line-g, AckFacts, Inv, end, Goods, nothing}
 use Rattle.rules.proofs.Agreement.Steps.{slot-round, stays, quiet, with-acks}
 
 module _ (S : Setup) (v : Wide S) (log : ℕ → ℕ) where

@@ -1,10 +1,10 @@
 -- The slots of the two ends, by their distance ahead of nxt and una: what each holds, and how storing, delivering, accepting and
 -- freeing keep it. `log` says which unit each number has.
-use mathlib.Core.Path.{_≡_, refl, sym, _∙_, ap}
+use mathlib.Core.Path.{_≡_, sym, _∙_, ap}
 use mathlib.Core.Bool.{Bool, true, false}
-use mathlib.Core.List.{List, [], _∷_}
+use mathlib.Core.List.{List}
 use mathlib.Core.Logic.{_≢_}
-use Prim.Native.Nat.{ℕ, zero, suc, _+_, _-_, _%_, _≤_, _<_}
+use Prim.Native.Nat.{ℕ, suc, _+_, _%_, _≤_, _<_}
 use native.Mathlib.Nat.{add-mod-right, add-zero, mod-lt}
 use native.Mathlib.Decide.{ℕ-discrete, decLt}
 use native.Mathlib.Omega.{arith}
@@ -12,7 +12,7 @@ use lib.ListN.{length, getD, set, length-set}
 use lib.Seq.{getD-set-other, getD-set-same}
 use Rattle.rules.specs.Marks.{marked, mark, unmark}
 use Rattle.rules.specs.Fit.{Within}
-use Rattle.rules.proofs.Marks.{marked-same, marked-other, unmarked-other, apart, clash, within-mark, low, next-other, next-lap, next-gone, within-next}
+use Rattle.rules.proofs.Marks.{marked-same, marked-other, unmarked-other, apart, clash, within-mark, low, next-other, next-gone, within-next}
 
 -- the slots from R up hold nothing
 pub record Idle (R : ℕ) (sl : List ℕ) : Type 0 where

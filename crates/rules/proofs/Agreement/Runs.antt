@@ -1,6 +1,6 @@
 -- Every list of events, from any state of the invariant: both machines answer alike, and what is delivered is what the log says.
 use mathlib.Core.Path.{_≡_, refl, sym, _∙_, ap, ap₂}
-use mathlib.Core.Bool.{Bool, true, false}
+use mathlib.Core.Bool.{true}
 use mathlib.Core.List.{List, [], _∷_, _++_}
 use Prim.Native.Nat.{ℕ, zero, suc, _+_, _-_, _≤_, _<_}
 use native.Mathlib.Nat.{add-zero, zero-add, add-suc, suc-add, add-sub-cancel-left}
@@ -11,14 +11,13 @@ use Rattle.rules.specs.declared.Setup.{Setup}
 use Rattle.rules.specs.declared.Bench.{Bench}
 use Rattle.rules.specs.Numbers.{wrapped, whole}
 use Rattle.rules.specs.Setups.{admitted}
-use Rattle.rules.specs.Parts.{data-channel, ack-channel}
-use Rattle.rules.specs.Events.{Out, Event, accept, send, arrive, room, acknowledge, hear, dropd, dropa, dupd, dupa, tick, act}
+use Rattle.rules.specs.Events.{Event, accept, send, arrive, room, acknowledge, hear, dropd, dropa, dupd, dupa, tick, act}
 use Rattle.rules.specs.Operations.{step}
 use Rattle.rules.specs.Runs.{Said, said, run, final, took, accepted, delivered}
 use Rattle.rules.specs.Agreement.{wrap}
 use Rattle.rules.proofs.Agreement.Lists.{All, done, more}
-use Rattle.rules.proofs.Agreement.Channels.{Proper, shown, shows-datas, shows-acks, dropping-alike, copying-alike}
-use Rattle.rules.proofs.Agreement.State.{Wide, Inv, end, stretch, Gave, Good, Goods}
+use Rattle.rules.proofs.Agreement.Channels.{Proper, shows-datas, shows-acks, dropping-alike, copying-alike}
+use Rattle.rules.proofs.Agreement.State.{Wide, Inv, end, stretch, Gave, Goods}
 use Rattle.rules.proofs.Agreement.Steps.{good-accept, good-send, good-ack, good-room, good-tick, good-datas, good-acks}
 use Rattle.rules.proofs.Agreement.Arriving.{good-data}
 use Rattle.rules.proofs.Agreement.Hearing.{good-hear}

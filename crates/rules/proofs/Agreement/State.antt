@@ -1,8 +1,8 @@
 -- The invariant of the bench on whole numbers, and what one event on both machines has to keep. The invariant has data of its own:
 -- the past of both ends, tick by tick, which no part of the bench remembers. A packet's facts are told against that past, so they
 -- outlive the tick.
-use mathlib.Core.Path.{_≡_, refl}
-use mathlib.Core.Bool.{Bool, true, false}
+use mathlib.Core.Path.{_≡_}
+use mathlib.Core.Bool.{false}
 use mathlib.Core.List.{List, [], _∷_}
 use Prim.Native.Nat.{ℕ, zero, suc, _+_, _*_, _/_, _%_, _^_, _≤_, _<_}
 use native.Mathlib.Omega.{arith}

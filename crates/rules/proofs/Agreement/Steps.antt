@@ -1,13 +1,11 @@
 -- Each event but the two arrivals: both machines do the same, and the invariant is kept.
-use mathlib.Core.Path.{_≡_, refl, sym, _∙_, ap}
-use mathlib.Core.Bool.{Bool, true, false, cond}
-use mathlib.Core.List.{List, [], _∷_, _++_}
-use Prim.Native.Nat.{ℕ, zero, suc, _+_, _-_, _*_, _/_, _%_, _≤_, _<_}
+use mathlib.Core.Path.{_≡_, refl, ap}
+use mathlib.Core.Bool.{cond}
+use mathlib.Core.List.{List, []}
+use Prim.Native.Nat.{ℕ, zero, suc, _+_, _%_, _≤_, _<_}
 use native.Mathlib.Nat.{zero-mod, mod-mod-of-dvd, mod-add-mod, suc-mod}
-use native.Mathlib.Decide.{decLe}
 use native.Mathlib.Omega.{arith}
 use lib.Dec.{leb}
-use lib.ListN.{length}
 use borrow.Author.Tests.{le-leb, lt-leb}
 use Rattle.rules.specs.declared.Setup.{Setup}
 use Rattle.rules.specs.declared.Recent.{Recent}
@@ -17,16 +15,15 @@ use Rattle.rules.specs.declared.DataChannel.{DataChannel}
 use Rattle.rules.specs.declared.AckChannel.{AckChannel}
 use Rattle.rules.specs.declared.Bench.{Bench}
 use Rattle.rules.specs.Numbers.{wrapped, whole, NS, NC}
-use Rattle.rules.specs.Parts.{data-channel, ack-channel}
-use Rattle.rules.specs.Fit.{FitSetup}
-use Rattle.rules.specs.Events.{Out, refused, done, older, with-unit, accepting, packet-of, bench-send, adding, dropping, copying, ack-of, opening, opened, bench-tick, ticked-channel, on-sender, on-receiver, on-datas, on-acks, accept}
+use Rattle.rules.specs.Parts.{ack-channel}
+use Rattle.rules.specs.Events.{Out, refused, done, older, with-unit, accepting, packet-of, bench-send, adding, ack-of, opening, bench-tick, on-sender, on-receiver, on-datas, on-acks, accept}
 use Rattle.rules.specs.Runs.{took}
-use Rattle.rules.specs.Agreement.{wrap-recent, wrap-sender, wrap-receiver, wrap-data, wrap-ack, wrap-datas, wrap-acks, wrap}
+use Rattle.rules.specs.Agreement.{wrap-recent, wrap-sender, wrap-receiver, wrap-datas, wrap-acks, wrap}
 use Rattle.rules.proofs.Agreement.Cases.{on-le, on-bool, either}
-use Rattle.rules.proofs.Agreement.Way.{Falls, Sent, Kept, push, now, falls-mono, sent-high, falls-push, kept-push, sent-push, falls-now, sent-now, kept-now}
+use Rattle.rules.proofs.Agreement.Way.{push, now, sent-high, falls-push, kept-push, sent-push, falls-now, sent-now, kept-now}
 use Rattle.rules.proofs.Agreement.Ring.{marks-grow, stored-accept}
-use Rattle.rules.proofs.Agreement.Channels.{Proper, shown, Alike, Shows, shows-datas, shows-acks, Holds, holds-imply, adding-alike, dropping-alike, copying-alike, ticked-shown, ticked-holds}
-use Rattle.rules.proofs.Agreement.State.{Wide, Past, Line, line-g, Nums, Edges, DataFacts, AckFacts, DatasHold, AcksHold, Setups, Inv, end, stretch, Gave, Good, Goods, nothing}
+use Rattle.rules.proofs.Agreement.Channels.{Proper, shown, Alike, shows-datas, shows-acks, holds-imply, adding-alike, ticked-shown, ticked-holds}
+use Rattle.rules.proofs.Agreement.State.{Wide, line-g, DatasHold, AcksHold, Inv, end, Goods, nothing}
 
 -- a number and the same number round NS have the same slot
 pub slot-round : {S : Setup} → Wide S → (x : ℕ) → x % NS S % S .window ≡ x % S .window

@@ -1,30 +1,27 @@
 -- The theorem of agreement: the invariant holds of the fresh bench, so every run from it is as the statement says.
 use mathlib.Core.Path.{_≡_, refl, sym, _∙_, ap}
-use mathlib.Core.Bool.{Bool, true, false, not}
-use mathlib.Core.List.{List, [], _∷_}
-use Prim.Native.Nat.{ℕ, zero, suc, _+_, _-_, _%_, _≤_, _<_}
+use mathlib.Core.Bool.{true, not}
+use mathlib.Core.List.{List, []}
+use Prim.Native.Nat.{ℕ, zero, suc, _+_, _%_}
 use native.Mathlib.Nat.{zero-mod, mod-eq-of-lt, add-zero}
 use native.Mathlib.Omega.{arith}
 use lib.ListN.{length, getD, take, replicate}
 use borrow.Author.Tests.{ne-eqb}
 use Rattle.rules.specs.declared.Setup.{Setup}
-use Rattle.rules.specs.declared.Bench.{Bench}
-use Rattle.rules.specs.Numbers.{wrapped, whole, NS, NC}
-use Rattle.rules.specs.Setups.{_also_, admitted}
-use Rattle.rules.specs.Marks.{marked}
-use Rattle.rules.specs.Parts.{fresh-bench, fresh-data-channel, fresh-ack-channel, data-channel, ack-channel}
+use Rattle.rules.specs.Numbers.{wrapped, whole, NC}
+use Rattle.rules.specs.Setups.{admitted}
+use Rattle.rules.specs.Parts.{fresh-bench, fresh-data-channel, fresh-ack-channel}
 use Rattle.rules.specs.Events.{Event}
 use Rattle.rules.specs.Runs.{Said, run, final, accepted, delivered}
-use Rattle.rules.specs.Malformed.{every}
-use Rattle.rules.specs.Agreement.{wrap, Ordered, proper, Agree, Agreement}
+use Rattle.rules.specs.Agreement.{wrap, proper, Agreement}
 use Rattle.rules.proofs.Tests.{_and_}
 use Rattle.rules.proofs.Marks.{unmarked-zero, clash}
 use Rattle.rules.proofs.Fits.{Limits, limits}
-use Rattle.rules.proofs.Agreement.Lists.{All, done, more, all-imply, every-is}
-use Rattle.rules.proofs.Agreement.Way.{Kept, gone}
+use Rattle.rules.proofs.Agreement.Lists.{done, all-imply, every-is}
+use Rattle.rules.proofs.Agreement.Way.{gone}
 use Rattle.rules.proofs.Agreement.Ring.{Idle}
-use Rattle.rules.proofs.Agreement.Channels.{Proper, Shows, shows-datas, shows-acks, holds-fill}
-use Rattle.rules.proofs.Agreement.State.{Wide, wide, Inv, end, stretch}
+use Rattle.rules.proofs.Agreement.Channels.{Proper, shows-datas, shows-acks, holds-fill}
+use Rattle.rules.proofs.Agreement.State.{Wide, wide, Inv}
 use Rattle.rules.proofs.Agreement.Runs.{take-stretch, log-of, log-of-stretch, Ran, ran}
 
 -- ---- fresh
