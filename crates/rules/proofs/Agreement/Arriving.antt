@@ -10,19 +10,20 @@ use lib.Dec.{ltb}
 use lib.ListN.{length, getD, set}
 use Rattle.rules.specs.declared.Setup.{Setup}
 use Rattle.rules.specs.declared.Receiver.{Receiver}
+use Rattle.rules.specs.declared.BareData.{BareData}
 use Rattle.rules.specs.declared.DataPacket.{DataPacket}
 use Rattle.rules.specs.declared.Bench.{Bench}
 use Rattle.rules.specs.Numbers.{wrapped, whole, NS, NC, Place}
-use Rattle.rules.specs.Marks.{marked, mark, unmark}
+use Rattle.rules.specs.Marks.{marked, mark}
 use Rattle.rules.specs.Parts.{data-channel, bare-data}
-use Rattle.rules.specs.Events.{Out, refused, Delivery, deliver, may-store, advanced, stored, arriving, packet-at, without-data, on-receiver, bench-data}
+use Rattle.rules.specs.Events.{Out, refused, Delivery, and-first, deliver, may-store, advanced, stored, arriving, packet-at, without-data, bench-data}
 use Rattle.rules.specs.Agreement.{wrap-receiver, wrap-data, wrap}
 use Rattle.rules.proofs.Wrap.{place-agree, View, back, fore, view}
 use Rattle.rules.proofs.Agreement.Cases.{on-bool, on-le, on-eq}
 use Rattle.rules.proofs.Agreement.Way.{now, distance, sent-high, sent-now, kept-now, kept-set, passed-agree}
 use Rattle.rules.proofs.Agreement.Ring.{Marks, marks-store, marks-next, head-stays}
 use Rattle.rules.proofs.Agreement.Channels.{shows-datas, holds-imply, packet-at-shown, packet-at-holds, removed-shown, removed-holds}
-use Rattle.rules.proofs.Agreement.State.{Wide, DataFacts, Inv, end, Gave, Goods, nothing}
+use Rattle.rules.proofs.Agreement.State.{Wide, DataFacts, Inv, end, Gave, Goods, GoodReceiver, nothing}
 use Rattle.rules.proofs.Agreement.Steps.{slot-round, stays, quiet, with-datas}
 
 -- ---- a delivery, on both machines
@@ -43,18 +44,20 @@ none-left true f = absurd (f refl)
 none-left false f = refl
 
 module _ (S : Setup) (v : Wide S) (log : ℕ → ℕ) where
-  -- what is stored at n is n's unit, if it is marked
+  -- a marked slot at n: n's unit is in it, and the window has room for it
   at-head : {n fin w : ℕ} {sl : List ℕ} {mk : ℕ} → Marks (S .window) log n fin w sl mk → marked mk (n % S .window) ≡ true
       → (n < fin) × (0 < w) × (getD sl (n % S .window) 0 ≡ log n)
-  at-head {n} {fin} {w} {sl} {mk} k t =
+  at-head {n} {mk = mk} k t =
+      let some = v .fit .some in
       let t′ : marked mk ((n + 0) % S .window) ≡ true = rw (add-zero n) t in
-      (omega (arith, k .known 0 (v .fit .some) t′), k .within .near 0 (v .fit .some) t′, rw (add-zero n) at (k .value 0 (v .fit .some) t′))
+      (omega (arith, k .known 0 some t′), k .within .near 0 some t′, rw (add-zero n) at (k .value 0 some t′))
 
   -- nothing is delivered any more
-  stop : {fin n w : ℕ} {sl : List ℕ} {mk : ℕ} → n ≤ fin → Marks (S .window) log n fin w sl mk → marked mk (n % S .window) ≡ false
+  run-stop : {fin n w : ℕ} {sl : List ℕ} {mk : ℕ} → n ≤ fin → Marks (S .window) log n fin w sl mk
+      → marked mk (n % S .window) ≡ false
       → GoodRun S log fin n w (record { units = []; nxt = n % NS S; slots = sl; marks = mk })
       (record { units = []; nxt = n; slots = sl; marks = mk })
-  stop le k e = record {
+  run-stop le k e = record {
     same = refl;
     gave = record { list = refl; moved = omega arith };
     upto = le;
@@ -63,10 +66,24 @@ module _ (S : Setup) (v : Wide S) (log : ℕ → ℕ) where
     head = e;
   }
 
+  -- one unit, and the rest from its next number on
+  run-first : {fin n w u : ℕ} {x y : Delivery} → 0 < w → u ≡ log n → GoodRun S log fin (suc n) (w - 1) x y
+      → GoodRun S log fin n w (and-first u x) (and-first u y)
+  run-first {n = n} {w} {u} {y = y} some e r =
+      let rest : w - suc (length (y .units)) ≡ w - 1 - length (y .units) = omega arith in
+      record {
+        same = ap (and-first u) (r .same);
+        gave = record { list = rw e (ap (log n ∷_) (r .gave .list)); moved = omega (arith, r .gave .moved) };
+        upto = r .upto;
+        edge = rw rest (omega (arith, r .edge));
+        marks = rw rest (r .marks);
+        head = r .head;
+      }
+
   good-run : {fin : ℕ} (turns w n : ℕ) (sl : List ℕ) (mk : ℕ) → n ≤ fin → w ≤ turns → Marks (S .window) log n fin w sl mk
       → GoodRun S log fin n w (deliver (wrapped S .seq) (S .window) turns (n % NS S) sl mk)
       (deliver (whole S .seq) (S .window) turns n sl mk)
-  good-run zero w n sl mk le few k = stop le k (none-left _ (λ t. omega (arith, at-head k t .1)))
+  good-run zero w n sl mk le few k = run-stop le k (none-left _ (λ t. omega (arith, at-head k t .1)))
   good-run {fin} (suc turns) w n sl mk le few k =
       on-bool (GoodRun S log fin n w) (ap (marked mk) (slot-round v n))
       (λ t.
@@ -74,33 +91,30 @@ module _ (S : Setup) (v : Wide S) (log : ℕ → ℕ) where
       let below = h .0 in
       let some = h .1 in
       let one : w ≡ suc (w - 1) = omega arith in
-      let ih = good-run turns (w - 1) (suc n) (set sl (n % S .window) 0) (unmark mk (n % S .window)) (omega arith) (omega arith)
-      (marks-next (rw one at k) (v .fit .some) (v .fit .most)) in
-      let rest : w - suc (length (deliver (whole S .seq) (S .window) turns (suc n) (set sl (n % S .window) 0) (unmark mk (n % S .window)) .units))
-      ≡ w - 1 - length (deliver (whole S .seq) (S .window) turns (suc n) (set sl (n % S .window) 0) (unmark mk (n % S .window)) .units)
-      = omega arith in
-      record {
-        same = rw (slot-round v n, ← suc-mod n (NS S), ih .same);
-        gave = record { list = rw (h .2) (ap (log n ∷_) (ih .gave .list)); moved = omega (arith, ih .gave .moved) };
-        upto = ih .upto;
-        edge = rw rest (omega (arith, ih .edge));
-        marks = rw rest (ih .marks);
-        head = ih .head;
-      })
-      (λ off. stop le k off)
+      let next = marks-next (rw one at k) (v .fit .some) (v .fit .most) in
+      rw (slot-round v n, ← suc-mod n (NS S))
+      (run-first some (h .2) (good-run turns (w - 1) (suc n) _ _ (omega arith) (omega arith) next)))
+      (λ off. run-stop le k off)
 
   -- ---- a packet p of the data channel, taken out of it
   module _ (p : DataPacket) (b : Bench) (i : Inv S log b) (o : DataFacts S log (i .past .h) (b .sender .clock) p) where
-    G : Out Receiver → Out Receiver → Type 0
-    G w z = Goods S log b nothing (on-receiver (wrap S b) w) (on-receiver b z)
+    -- the receiver and the packet as the wrapped bench has them
+    abbrev r′ : Receiver
+    r′ = wrap-receiver S (b .receiver)
+
+    abbrev q′ : BareData
+    q′ = bare-data (wrap-data S p)
+
+    abbrev G : Out Receiver → Out Receiver → Type 0
+    G = GoodReceiver S log b
 
     accepted-before : p .seq < end b
     accepted-before = omega (arith, sent-high (i .line .fall) (o .sent))
 
     -- o = 0
-    good-advance : {w z : Delivery} → p .seq ≡ b .receiver .nxt → GoodRun S log (end b) (b .receiver .nxt) (b .receiver .window) w z
-        → Goods S log b nothing (on-receiver (wrap S b) (advanced (wrapped S) S (p .stamp % NC S) (wrap-receiver S (b .receiver)) w))
-        (on-receiver b (advanced (whole S) S (p .stamp) (b .receiver) z))
+    good-advance : {w z : Delivery} → p .seq ≡ b .receiver .nxt
+        → GoodRun S log (end b) (b .receiver .nxt) (b .receiver .window) w z
+        → G (advanced (wrapped S) S (p .stamp % NC S) r′ w) (advanced (whole S) S (p .stamp) (b .receiver) z)
     good-advance {w} {z} e r =
         let moved = r .gave .moved in
         let up : i .past .g 0 ≤ z .nxt = omega arith in
@@ -121,7 +135,12 @@ module _ (S : Setup) (v : Wide S) (log : ℕ → ℕ) where
               now = λ k le. omega (arith, i .edges .now k (omega arith), r .edge);
             };
             datas = i .datas;
-            acks = holds-imply (λ q f. record { sent = sent-now (z .nxt) up (f .sent); most = f .most; edge = f .edge; past = f .past }) (i .acks);
+            acks = holds-imply (λ q f. record {
+              sent = sent-now (z .nxt) up (f .sent);
+              most = f .most;
+              edge = f .edge;
+              past = f .past;
+            }) (i .acks);
             r-recent = kept-set (o .sent) (omega arith);
             s-recent = kept-now (z .nxt) up (i .s-recent);
             marks = r .marks;
@@ -133,25 +152,17 @@ module _ (S : Setup) (v : Wide S) (log : ℕ → ℕ) where
           proper = omega arith;
         }
 
-    good-store : {l : Place} → View (S .window) (p .seq) (b .receiver .nxt) l
-        → G (may-store (wrapped S) S (bare-data (wrap-data S p)) (wrap-receiver S (b .receiver)) (refused (wrap-receiver S (b .receiver)))
-        (stored (wrapped S) S (bare-data (wrap-data S p)) (wrap-receiver S (b .receiver))) l)
-        (may-store (whole S) S (bare-data p) (b .receiver) (refused (b .receiver)) (stored (whole S) S (bare-data p) (b .receiver)) l)
-    unfolding G
-    good-store back = stays S v log i 10 (omega arith)
-    good-store (fore d e lt) =
-        on-le G (b .receiver .window) d refl
-        (λ beyond. absurd (omega (arith, accepted-before, i .edges .top (b .sender .una))))
-        (λ win. on-bool G (ap (marked (b .receiver .marks)) (slot-round v (p .seq)))
-        (λ _. stays S v log i 12 (omega arith))
-        (λ _.
+    -- stored d ahead of nxt
+    good-stored : (d : ℕ) → p .seq ≡ b .receiver .nxt + d → d < S .window → d < b .receiver .window
+        → G (stored (wrapped S) S q′ r′ d) (stored (whole S) S (bare-data p) (b .receiver) d)
+    good-stored d e lt win =
         let sl = set (b .receiver .slots) (p .seq % S .window) (p .unit) in
         let mk = mark (b .receiver .marks) (p .seq % S .window) in
         let marks : Marks (S .window) log (b .receiver .nxt) (end b) (b .receiver .window) sl mk
         = rw e (marks-store (i .marks) d (p .unit) lt win (omega (arith, accepted-before)) (o .unit ∙ ap log e)) in
         on-eq G d 0
-        (λ z. rw (slot-round v (p .seq))
-        (good-advance (omega arith) (good-run (S .window) (b .receiver .window) (b .receiver .nxt) sl mk (omega arith) (omega arith) marks)))
+        (λ z. rw (slot-round v (p .seq)) (good-advance (omega arith)
+        (good-run (S .window) (b .receiver .window) (b .receiver .nxt) sl mk (omega arith) (omega arith) marks)))
         (λ nz. quiet S v log b _ refl refl (rw (slot-round v (p .seq))) (record {
           past = i .past;
           setups = i .setups;
@@ -165,11 +176,20 @@ module _ (S : Setup) (v : Wide S) (log : ℕ → ℕ) where
           marks = marks;
           head = rw e (head-stays (S .window) (b .receiver .nxt) d (b .receiver .marks) (v .fit .some) lt nz (i .head));
           stored = i .stored;
-        }))))
+        }))
 
-    good-arriving : G (arriving (wrapped S) S (bare-data (wrap-data S p)) (wrap-receiver S (b .receiver)))
-        (arriving (whole S) S (bare-data p) (b .receiver))
-    unfolding G
+    good-store : {l : Place} → View (S .window) (p .seq) (b .receiver .nxt) l
+        → G (may-store (wrapped S) S q′ r′ (refused r′) (stored (wrapped S) S q′ r′) l)
+        (may-store (whole S) S (bare-data p) (b .receiver) (refused (b .receiver)) (stored (whole S) S (bare-data p) (b .receiver)) l)
+    good-store back = stays S v log i 10 (omega arith)
+    good-store (fore d e lt) =
+        on-le G (b .receiver .window) d refl
+        (λ beyond. absurd (omega (arith, accepted-before, i .edges .top (b .sender .una))))
+        (λ win. on-bool G (ap (marked (b .receiver .marks)) (slot-round v (p .seq)))
+        (λ _. stays S v log i 12 (omega arith))
+        (λ _. good-stored d e lt win))
+
+    good-arriving : G (arriving (wrapped S) S q′ r′) (arriving (whole S) S (bare-data p) (b .receiver))
     good-arriving =
         on-bool G (passed-agree S (v .clocks) (o .sent) (i .r-recent))
         (λ pass. rw (place-agree (NS S) (S .window) (p .seq) (b .receiver .nxt) (omega (arith, v .seqs))
@@ -180,7 +200,6 @@ module _ (S : Setup) (v : Wide S) (log : ℕ → ℕ) where
 
   pub good-data : (j n : ℕ) (b : Bench) → Inv S log b
       → Goods S log b nothing (bench-data (wrapped S) S j n (wrap S b)) (bench-data (whole S) S j n b)
-  unfolding G
   good-data j n b i =
       on-bool (Goods S log b nothing) {c = ltb n (S .window)} refl
       (λ _. stays S v log i 8 (omega arith))

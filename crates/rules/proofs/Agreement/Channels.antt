@@ -19,7 +19,7 @@ use Rattle.rules.specs.Rows.{row, remove, aged}
 use Rattle.rules.specs.Parts.{Channel, live, data-channel, ack-channel, new-data, new-ack, no-data, no-ack}
 use Rattle.rules.specs.Fit.{FitChannel}
 use Rattle.rules.specs.Malformed.{every, formed-channel}
-use Rattle.rules.specs.Events.{Out, refused, packet-at, adding, removed, dropping, copying, ticked-channel}
+use Rattle.rules.specs.Events.{Out, refused, done, packet-at, adding, removed, dropping, copying, ticked-channel}
 use Rattle.rules.specs.Agreement.{wrap-data, wrap-ack, wrap-datas, wrap-acks}
 use Rattle.rules.proofs.Tests.{_and_}
 use Rattle.rules.proofs.Rows.{live-row, length-row}
@@ -159,10 +159,10 @@ module _ {H P C : Type 0} {K : Channel H P C} {at : C → Setup} {f : P → P} {
         holds-fill c (h .setup) (omega (arith, live-length (h .fit), length-remove-le j (live K c))) (all-remove j (h .all))
 
     -- p at the end, and p′ where it is shown
-    abbrev added : (p′ p : P) → p′ ≡ f p → F p → K .count c < 32
-        → Alike W (Holds K at S F) (refused (K .fill (W c) (live K (W c) ++ p′ ∷ [])) 0) (refused (K .fill c (live K c ++ p ∷ [])) 0)
+    added : (p′ p : P) → p′ ≡ f p → F p → K .count c < 32
+        → Alike W (Holds K at S F) (done (K .fill (W c) (live K (W c) ++ p′ ∷ []))) (done (K .fill c (live K c ++ p ∷ [])))
     added p′ p e o lt = record {
-      same = ap (λ (x : C). refused x 0) (fill-shown c (live K c ++ p ∷ []) (rw (live-shown c, map-add f (live K c) p, e)));
+      same = ap done (fill-shown c (live K c ++ p ∷ []) (rw (live-shown c, map-add f (live K c) p, e)));
       kept = holds-fill c (h .setup) (omega (arith, live-length (h .fit), length-append (live K c) (p ∷ []))) (all-add (h .all) o);
       silent = refl;
       proper = omega arith;
@@ -177,18 +177,19 @@ module _ {H P C : Type 0} {K : Channel H P C} {at : C → Setup} {f : P → P} {
     counted : (n : ℕ) → leb (K .count (W c)) n ≡ leb (K .count c) n
     counted n = rw (k .count c)
 
-    pub adding-alike : (p′ p : H) → K .new p′ ≡ f (K .new p) → F (K .new p) → Alike W (Holds K at S F) (adding K p′ (W c)) (adding K p c)
+    pub adding-alike : (p′ p : H) → K .new p′ ≡ f (K .new p) → F (K .new p)
+        → Alike W (Holds K at S F) (adding K p′ (W c)) (adding K p c)
     adding-alike p′ p e o =
         on-le (Alike W (Holds K at S F)) 32 (K .count c) (counts 32)
         (λ _. no 5 (omega arith))
-        (λ lt. added (K .new p′) (K .new p) e o lt)
+        (λ lt. added _ _ e o lt)
 
     pub dropping-alike : (j : ℕ) → Alike W (Holds K at S F) (dropping K j (W c)) (dropping K j c)
     dropping-alike j =
         on-le (Alike W (Holds K at S F)) (K .count c) j (counted j)
         (λ _. no 4 (omega arith))
         (λ _. record {
-          same = ap (λ (x : C). refused x 0) (removed-shown j);
+          same = ap done (removed-shown j);
           kept = removed-holds j;
           silent = refl;
           proper = omega arith;
@@ -200,7 +201,7 @@ module _ {H P C : Type 0} {K : Channel H P C} {at : C → Setup} {f : P → P} {
         (λ _. no 4 (omega arith))
         (λ here. on-le (Alike W (Holds K at S F)) 32 (K .count c) (counts 32)
         (λ _. no 5 (omega arith))
-        (λ lt. added (packet-at K j (W c)) (packet-at K j c) (packet-at-shown j here) (packet-at-holds j here) lt))
+        (λ lt. added _ _ (packet-at-shown j here) (packet-at-holds j here) lt))
 
     pub ticked-shown : (L : ℕ) → ticked-channel K L (W c) ≡ W (ticked-channel K L c)
     ticked-shown L =

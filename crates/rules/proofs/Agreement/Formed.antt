@@ -66,7 +66,8 @@ module _ (S : Setup) (v : Wide S) (log : ℕ → ℕ) (A : Arith) where
   receiver-is r q fin a b c e w k head =
       a and le-leb _ _ w and b and c
       and all-is _ 0 (S .window) (λ d le lt. rw (e d) (either (λ (x : Bool). x ≡ true) (marked (r .marks) ((q + d) % S .window))
-      (λ t. le-leb 1 d (first d t) and lt-ltb d _ (k .within .near d (omega arith) t)) (λ t. eq-eqb _ 0 (k .empty d (omega arith) t))))
+      (λ t. le-leb 1 d (first d t) and lt-ltb d _ (k .within .near d (omega arith) t))
+      (λ t. eq-eqb _ 0 (k .empty d (omega arith) t))))
       and all-is _ (S .window) (64 - S .window) (λ i le lt.
       eq-eqb _ 0 (k .idle .rest i le (omega (arith, v .fit .most))) and ap not (k .unmarked i le (omega (arith, v .fit .most))))
     where
@@ -88,7 +89,8 @@ module _ (S : Setup) (adm : admitted S ≡ true) (v : Wide S) where
   recent-whole (gone h) = refl and refl
   recent-whole (held h) = refl and le-leb _ _ (h .young)
 
-  recent-wrapped : {T m : ℕ} {f : ℕ → ℕ} {r : Recent} → Kept (S .life) T f m r → formed-recent (wrapped S) S (wrap-recent S r) ≡ true
+  recent-wrapped : {T m : ℕ} {f : ℕ → ℕ} {r : Recent} → Kept (S .life) T f m r
+      → formed-recent (wrapped S) S (wrap-recent S r) ≡ true
   unfolding formed-recent
   recent-wrapped (gone h) = eq-eqb _ 0 (zero-mod (NC S)) and refl
   recent-wrapped (held {t = t} h) = in-clk t and le-leb _ _ (h .young)
@@ -112,7 +114,8 @@ module _ (S : Setup) (adm : admitted S ≡ true) (v : Wide S) where
     unfolding formed-ack right-ack
     acks-wrapped =
         rw (live-shown (shows-acks S) (b .acks))
-        (all-map (wrap-ack S) (λ p o. in-seq (p .ack) and le-leb _ _ (o .most) and in-clk (p .stamp) and le-leb _ _ (o .sent .young)) (i .acks .all))
+        (all-map (wrap-ack S)
+        (λ p o. in-seq (p .ack) and le-leb _ _ (o .most) and in-clk (p .stamp) and le-leb _ _ (o .sent .young)) (i .acks .all))
 
     bench-whole : formed-bench whole S b ≡ true
     unfolding formed-bench is-no-data is-no-ack _also_
@@ -129,8 +132,8 @@ module _ (S : Setup) (adm : admitted S ≡ true) (v : Wide S) where
     unfolding formed-bench is-no-data is-no-ack _also_
     bench-wrapped =
         setup-is S _ (i .setups .receiver) and setup-is S _ (i .datas .setup) and setup-is S _ (i .acks .setup)
-        and sender-is S v log (wrapped S) (wrap-sender S (b .sender)) (b .sender .una) (in-seq (b .sender .una)) (in-clk (b .sender .clock))
-        (recent-wrapped (i .s-recent)) (turn (v .fit) (b .sender .una))
+        and sender-is S v log (wrapped S) (wrap-sender S (b .sender)) (b .sender .una)
+        (in-seq (b .sender .una)) (in-clk (b .sender .clock)) (recent-wrapped (i .s-recent)) (turn (v .fit) (b .sender .una))
         (omega (arith, i .nums)) (omega (arith, i .nums)) (omega (arith, i .nums)) (i .stored)
         and receiver-is S v log (wrapped S) (wrap-receiver S (b .receiver)) (b .receiver .nxt) _
         (in-seq (b .receiver .nxt)) (in-clk (b .receiver .clock)) (recent-wrapped (i .r-recent)) (turn (v .fit) (b .receiver .nxt))

@@ -8,6 +8,8 @@ use Prim.Native.Nat.{ℕ, zero, suc, _+_, _*_, _/_, _%_, _^_, _≤_, _<_}
 use native.Mathlib.Omega.{arith}
 use lib.ListN.{length}
 use Rattle.rules.specs.declared.Setup.{Setup}
+use Rattle.rules.specs.declared.Sender.{Sender}
+use Rattle.rules.specs.declared.Receiver.{Receiver}
 use Rattle.rules.specs.declared.DataPacket.{DataPacket}
 use Rattle.rules.specs.declared.AckPacket.{AckPacket}
 use Rattle.rules.specs.declared.DataChannel.{DataChannel}
@@ -17,7 +19,7 @@ use Rattle.rules.specs.Numbers.{NS, NC}
 use Rattle.rules.specs.Marks.{marked}
 use Rattle.rules.specs.Parts.{data-channel, ack-channel}
 use Rattle.rules.specs.Fit.{FitSetup}
-use Rattle.rules.specs.Events.{Out}
+use Rattle.rules.specs.Events.{Out, on-sender, on-receiver}
 use Rattle.rules.specs.Agreement.{wrap}
 use Rattle.rules.proofs.Fits.{Limits, fit-setup}
 use Rattle.rules.proofs.Agreement.Way.{Falls, Sent, Kept}
@@ -151,3 +153,10 @@ Goods S log b = Good S log (b .receiver .nxt) (end b)
 -- an event that accepts nothing
 abbrev pub nothing : ℕ → List ℕ
 nothing n = []
+
+-- an event of one end
+abbrev pub GoodSender : (S : Setup) → (ℕ → ℕ) → Bench → (ℕ → List ℕ) → Out Sender → Out Sender → Type 0
+GoodSender S log b took w z = Goods S log b took (on-sender (wrap S b) w) (on-sender b z)
+
+abbrev pub GoodReceiver : (S : Setup) → (ℕ → ℕ) → Bench → Out Receiver → Out Receiver → Type 0
+GoodReceiver S log b w z = Goods S log b nothing (on-receiver (wrap S b) w) (on-receiver b z)

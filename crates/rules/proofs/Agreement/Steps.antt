@@ -10,20 +10,19 @@ use borrow.Author.Tests.{le-leb, lt-leb}
 use Rattle.rules.specs.declared.Setup.{Setup}
 use Rattle.rules.specs.declared.Recent.{Recent}
 use Rattle.rules.specs.declared.Sender.{Sender}
-use Rattle.rules.specs.declared.Receiver.{Receiver}
 use Rattle.rules.specs.declared.DataChannel.{DataChannel}
 use Rattle.rules.specs.declared.AckChannel.{AckChannel}
 use Rattle.rules.specs.declared.Bench.{Bench}
 use Rattle.rules.specs.Numbers.{wrapped, whole, NS, NC}
 use Rattle.rules.specs.Parts.{ack-channel}
-use Rattle.rules.specs.Events.{Out, refused, done, older, with-unit, accepting, packet-of, bench-send, adding, ack-of, opening, bench-tick, on-sender, on-receiver, on-datas, on-acks, accept}
+use Rattle.rules.specs.Events.{Out, refused, done, older, with-unit, accepting, packet-of, bench-send, adding, ack-of, opening, bench-tick, on-sender, on-datas, on-acks, accept}
 use Rattle.rules.specs.Runs.{took}
 use Rattle.rules.specs.Agreement.{wrap-recent, wrap-sender, wrap-receiver, wrap-datas, wrap-acks, wrap}
 use Rattle.rules.proofs.Agreement.Cases.{on-le, on-bool, either}
 use Rattle.rules.proofs.Agreement.Way.{push, now, sent-high, falls-push, kept-push, sent-push, falls-now, sent-now, kept-now}
 use Rattle.rules.proofs.Agreement.Ring.{marks-grow, stored-accept}
 use Rattle.rules.proofs.Agreement.Channels.{Proper, shown, Alike, shows-datas, shows-acks, holds-imply, adding-alike, ticked-shown, ticked-holds}
-use Rattle.rules.proofs.Agreement.State.{Wide, line-g, DatasHold, AcksHold, Inv, end, Goods, nothing}
+use Rattle.rules.proofs.Agreement.State.{Wide, line-g, DatasHold, AcksHold, Inv, end, Goods, GoodSender, GoodReceiver, nothing}
 
 -- a number and the same number round NS have the same slot
 pub slot-round : {S : Setup} → Wide S → (x : ℕ) → x % NS S % S .window ≡ x % S .window
@@ -60,8 +59,8 @@ module _ (S : Setup) (v : Wide S) (log : ℕ → ℕ) where
   -- the log says beforehand what an accepted unit is
   pub good-accept : (u : ℕ) (b : Bench) → Inv S log b
       → (accepting (whole S) S u (b .sender) .answer ≡ 0 → u ≡ log (end b))
-      → Goods S log b (took (accept u)) (on-sender (wrap S b) (accepting (wrapped S) S u (wrap-sender S (b .sender))))
-      (on-sender b (accepting (whole S) S u (b .sender)))
+      → GoodSender S log b (took (accept u)) (accepting (wrapped S) S u (wrap-sender S (b .sender)))
+      (accepting (whole S) S u (b .sender))
   good-accept u b i =
       on-le P (b .sender .granted) (b .sender .outstanding) refl
       (λ _ _. left i 6 (omega arith) (took (accept u)) refl)
@@ -76,7 +75,7 @@ module _ (S : Setup) (v : Wide S) (log : ℕ → ℕ) where
       }))
     where
       P : Out Sender → Out Sender → Type 0
-      P w z = (z .answer ≡ 0 → u ≡ log (end b)) → Goods S log b (took (accept u)) (on-sender (wrap S b) w) (on-sender b z)
+      P w z = (z .answer ≡ 0 → u ≡ log (end b)) → GoodSender S log b (took (accept u)) w z
 
       kept : b .sender .outstanding < b .sender .granted → b .sender .accepted < S .rate → u ≡ log (end b)
           → Inv S log (on-sender b (done (with-unit (whole S) S u (b .sender))) .state)
@@ -177,7 +176,8 @@ module _ (S : Setup) (v : Wide S) (log : ℕ → ℕ) where
 
   -- ---- ack
   pub good-ack : (b : Bench) → Inv S log b
-      → Goods S log b nothing (on-acks (wrap S b) (adding ack-channel (ack-of (wrap-receiver S (b .receiver))) (wrap-acks S (b .acks))))
+      → Goods S log b nothing
+      (on-acks (wrap S b) (adding ack-channel (ack-of (wrap-receiver S (b .receiver))) (wrap-acks S (b .acks))))
       (on-acks b (adding ack-channel (ack-of (b .receiver)) (b .acks)))
   good-ack b i =
       good-acks i (adding-alike (shows-acks S) (i .acks) (ack-of (wrap-receiver S (b .receiver))) (ack-of (b .receiver)) refl
@@ -205,9 +205,9 @@ module _ (S : Setup) (v : Wide S) (log : ℕ → ℕ) where
   further-top E nxt e k le = either (λ (x : ℕ). x ≤ e) (leb nxt k) (λ _. omega arith) (λ _. le)
 
   pub good-room : (b : Bench) → Inv S log b
-      → Goods S log b nothing (on-receiver (wrap S b) (opening S (wrap-receiver S (b .receiver)))) (on-receiver b (opening S (b .receiver)))
+      → GoodReceiver S log b (opening S (wrap-receiver S (b .receiver))) (opening S (b .receiver))
   good-room b i =
-      on-le (λ (w z : Out Receiver). Goods S log b nothing (on-receiver (wrap S b) w) (on-receiver b z)) (S .window) (b .receiver .window) refl
+      on-le (GoodReceiver S log b) (S .window) (b .receiver .window) refl
       (λ _. stays i 13 (omega arith))
       (λ lt.
       let n : ℕ = b .receiver .nxt in
@@ -228,7 +228,9 @@ module _ (S : Setup) (v : Wide S) (log : ℕ → ℕ) where
           sent = o .sent;
           most = o .most;
           edge = omega (arith, o .edge, up (p .ack));
-          past = λ k lt. omega (arith, o .past k lt, further-past (i .past .E) n e k (omega (arith, sent-high (line-g (i .line)) (o .sent))));
+          past = λ k lt.
+              let before : k < n = omega (arith, sent-high (line-g (i .line)) (o .sent)) in
+              omega (arith, o .past k lt, further-past (i .past .E) n e k before);
         }) (i .acks);
         r-recent = i .r-recent;
         s-recent = i .s-recent;
@@ -240,9 +242,12 @@ module _ (S : Setup) (v : Wide S) (log : ℕ → ℕ) where
   -- ---- tick
   older-wrap : (r : Recent) → older (S .life) (wrap-recent S r) ≡ wrap-recent S (older (S .life) r)
   older-wrap r =
-      on-bool (λ (x y : Recent). x ≡ wrap-recent S y) {c = r .held} refl
-      (λ _. on-bool (λ (x y : Recent). x ≡ wrap-recent S y) {c = leb (suc (r .age)) (S .life)} refl (λ _. refl) (λ _. rw (zero-mod (NC S))))
+      on-bool P {c = r .held} refl
+      (λ _. on-bool P {c = leb (suc (r .age)) (S .life)} refl (λ _. refl) (λ _. rw (zero-mod (NC S))))
       (λ _. rw (zero-mod (NC S)))
+    where
+      P : Recent → Recent → Type 0
+      P x y = x ≡ wrap-recent S y
 
   pub good-tick : (b : Bench) → Inv S log b → Goods S log b nothing (bench-tick (wrapped S) S (wrap S b)) (bench-tick (whole S) S b)
   good-tick b i =
