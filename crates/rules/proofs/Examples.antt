@@ -1,7 +1,9 @@
 -- Short runs, one for each slip that looks right: what the rules answer where the slip would answer otherwise. (The comparison of
 -- timestamps as plain numbers is refused by row (j) of the marked examples.)
 use mathlib.Core.Path.{_≡_, refl}
-use mathlib.Core.List.{List, [], _∷_, map}
+use mathlib.Core.List.{List, [], _∷_, _++_, map}
+use Prim.Native.Nat.{ℕ}
+use lib.ListN.{replicate}
 use Rattle.rules.specs.Numbers.{dist, wrapped}
 use Rattle.rules.specs.Setups.{_also_, is-window, in-limits, in-ranges, admitted, same-setup}
 use Rattle.rules.specs.Marks.{marked, mark, unmark}
@@ -10,7 +12,7 @@ use Rattle.rules.specs.Parts.{is-no-data, is-no-ack, fresh-bench}
 use Rattle.rules.specs.Malformed.{all-from, every, formed-recent, formed-sender, formed-receiver, right-data, right-ack, formed-data, formed-ack, formed-channel, formed-bench, malformed-bench}
 use Rattle.rules.specs.Events.{Event, accept, send, arrive, room, acknowledge, hear, dupd, tick, act}
 use Rattle.rules.specs.Operations.{step}
-use Rattle.rules.specs.Runs.{run}
+use Rattle.rules.specs.Runs.{Said, run}
 use Rattle.rules.proofs.Session.{S, only}
 
 -- a unit sent earlier than a later one, and arriving after it, is taken: recent is not set by the later one, which is stored ahead
@@ -30,12 +32,16 @@ copied = room ∷ acknowledge ∷ hear 0 ∷ accept 500 ∷ send 0 ∷ tick ∷ 
 abbrev pub smaller : List Event
 smaller = acknowledge ∷ room ∷ acknowledge ∷ hear 1 ∷ hear 0 ∷ accept 500 ∷ []
 
+-- n events, each done
+abbrev all-done : ℕ → List Said
+all-done n = replicate n (only 0)
+
 pub slips :
     map (λ (es : List Event). run wrapped es (fresh-bench S)) (earlier ∷ idle ∷ copied ∷ smaller ∷ [])
-    ≡ (only 0 ∷ only 0 ∷ only 0 ∷ only 0 ∷ only 0 ∷ only 0 ∷ only 0 ∷ only 0 ∷ only 0 ∷ only 0 ∷ record { answer = 0; units = 500 ∷ 740 ∷ [] } ∷ [])
-    ∷ (only 0 ∷ only 0 ∷ only 0 ∷ only 0 ∷ only 0 ∷ only 0 ∷ only 0 ∷ only 0 ∷ [])
-    ∷ (only 0 ∷ only 0 ∷ only 0 ∷ only 0 ∷ only 0 ∷ only 0 ∷ only 0 ∷ only 0 ∷ only 4 ∷ [])
-    ∷ (only 0 ∷ only 0 ∷ only 0 ∷ only 0 ∷ only 0 ∷ only 0 ∷ [])
+    ≡ (all-done 10 ++ record { answer = 0; units = 500 ∷ 740 ∷ [] } ∷ [])
+    ∷ all-done 8
+    ∷ (all-done 8 ++ only 4 ∷ [])
+    ∷ all-done 6
     ∷ []
 unfolding run step act dist marked mark unmark row malformed-bench formed-bench formed-sender formed-receiver formed-channel formed-data formed-ack right-data right-ack formed-recent is-no-data is-no-ack same-setup every all-from admitted in-limits in-ranges is-window _also_
 slips = refl

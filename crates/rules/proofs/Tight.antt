@@ -5,6 +5,7 @@ use mathlib.Core.Path.{_≡_, refl}
 use mathlib.Core.Bool.{true, false}
 use mathlib.Core.List.{List, [], _∷_}
 use Prim.Native.Nat.{ℕ}
+use native.Mathlib.Omega.{arith}
 use Rattle.rules.specs.declared.Setup.{Setup}
 use Rattle.rules.specs.declared.Bench.{Bench}
 use Rattle.rules.specs.Numbers.{dist, Arith, wrapped, whole}
@@ -18,6 +19,10 @@ use Rattle.rules.specs.Events.{Event, accept, send, arrive, room, acknow
 unfoldable pub answers : (Setup → Arith) → Setup → List Event → Bench → List ℕ
 answers A S [] b = []
 answers A S (e ∷ es) b = act (A S) S e b .answer ∷ answers A S es (act (A S) S e b .state)
+
+-- on these events, wrapped and whole numbers do not give the same answers
+abbrev pub Apart : Setup → List Event → Type 0
+Apart S es = ¬ (answers wrapped S es (fresh-bench S) ≡ answers whole S es (fresh-bench S))
 
 -- ---- the sequence numbers: RW 1, NS 4, and B units a tick
 abbrev pub few-numbers : ℕ → Setup
@@ -49,6 +54,9 @@ pub three-through-whole :
 unfolding answers act dist marked mark unmark row
 three-through-whole = refl
 
+pub three-through-apart : Apart (few-numbers 2) three-through
+three-through-apart e = let z : _≡_ {A = ℕ} 11 10 = cc (three-through-wrapped, three-through-whole) in omega arith
+
 -- ---- the clocks: NC 8, and a life of L ticks
 abbrev pub short-clock : ℕ → Setup
 short-clock L = record { window = 1; seqbits = 2; clockbits = 3; life = L; rate = 1; seq = 0; sclock = 0; rclock = 0 }
@@ -70,3 +78,6 @@ pub four-later-whole :
     answers whole (short-clock 2) four-later (fresh-bench (short-clock 2)) ≡ 0 ∷ 0 ∷ 0 ∷ 0 ∷ 0 ∷ 0 ∷ 0 ∷ 0 ∷ []
 unfolding answers act dist marked mark unmark row
 four-later-whole = refl
+
+pub four-later-apart : Apart (short-clock 2) four-later
+four-later-apart e = let z : _≡_ {A = ℕ} 9 0 = cc (four-later-wrapped, four-later-whole) in omega arith
