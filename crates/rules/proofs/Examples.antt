@@ -10,15 +10,17 @@ use Rattle.rules.specs.Marks.{marked, mark, unmark}
 use Rattle.rules.specs.Rows.{row}
 use Rattle.rules.specs.Parts.{is-no-data, is-no-ack, fresh-bench}
 use Rattle.rules.specs.Malformed.{all-from, every, formed-recent, formed-sender, formed-receiver, right-data, right-ack, formed-data, formed-ack, formed-channel, formed-bench, malformed-bench}
-use Rattle.rules.specs.Events.{Event, accept, send, arrive, room, acknowledge, hear, dupd, tick, act}
+use Rattle.rules.specs.Events.{Event, accept, send, arrive, room, acknowledge, hear, dropd, dupd, tick, act}
 use Rattle.rules.specs.Operations.{step}
 use Rattle.rules.specs.Runs.{Said, run}
 use Rattle.rules.proofs.Session.{S, only}
 
--- a unit sent earlier than a later one, and arriving after it, is taken: recent is not set by the later one, which is stored ahead
-abbrev pub earlier : List Event
-earlier =
-    room ∷ room ∷ acknowledge ∷ hear 0 ∷ accept 500 ∷ accept 740 ∷ send 0 ∷ tick ∷ send 1 ∷ arrive 1 64 ∷ arrive 0 64 ∷ []
+-- a unit is lost and sent again; a later one, sent a tick after that, arrives first and is stored ahead, which leaves recent as it
+-- was; so the retransmission is taken, and both are delivered
+abbrev pub sent-again : List Event
+sent-again =
+    room ∷ room ∷ acknowledge ∷ hear 0 ∷ accept 500 ∷ accept 740 ∷ send 0 ∷ dropd 0 ∷ send 0 ∷ tick ∷ send 1
+    ∷ arrive 1 64 ∷ arrive 0 64 ∷ []
 
 -- after a long idle spell a fresh acknowledgement is heard: recent is gone
 abbrev pub idle : List Event
@@ -37,8 +39,8 @@ abbrev all-done : ℕ → List Said
 all-done n = replicate n (only 0)
 
 pub slips :
-    map (λ (es : List Event). run wrapped es (fresh-bench S)) (earlier ∷ idle ∷ copied ∷ smaller ∷ [])
-    ≡ (all-done 10 ++ record { answer = 0; units = 500 ∷ 740 ∷ [] } ∷ [])
+    map (λ (es : List Event). run wrapped es (fresh-bench S)) (sent-again ∷ idle ∷ copied ∷ smaller ∷ [])
+    ≡ (all-done 12 ++ record { answer = 0; units = 500 ∷ 740 ∷ [] } ∷ [])
     ∷ all-done 8
     ∷ (all-done 8 ++ only 4 ∷ [])
     ∷ all-done 6

@@ -37,8 +37,8 @@ shown W o = record { answer = o .answer; units = o .units; state = W (o .state) 
 
 -- an event on both: the one is the other shown, and a fact of the state is kept; it delivers nothing
 pub record Alike {X : Type 0} (W : X → X) (P : X → Type 0) (w z : Out X) : Type 0 where
-  pub same : w ≡ shown W z
   pub kept : P (z .state)
+  pub same : w ≡ shown W z
   pub silent : z .units ≡ []
   pub proper : Proper (z .answer)
 
@@ -159,17 +159,15 @@ module _ {H P C : Type 0} {K : Channel H P C} {at : C → Setup} {f : P → P} {
         holds-fill c (h .setup) (omega (arith, live-length (h .fit), length-remove-le j (live K c))) (all-remove j (h .all))
 
     -- p at the end, and p′ where it is shown
-    added : (p′ p : P) → p′ ≡ f p → F p → K .count c < 32
-        → Alike W (Holds K at S F) (done (K .fill (W c) (live K (W c) ++ p′ ∷ []))) (done (K .fill c (live K c ++ p ∷ [])))
-    added p′ p e o lt = record {
-      same = ap done (fill-shown c (live K c ++ p ∷ []) (rw (live-shown c, map-add f (live K c) p, e)));
-      kept = holds-fill c (h .setup) (omega (arith, live-length (h .fit), length-append (live K c) (p ∷ []))) (all-add (h .all) o);
-      silent = refl;
-      proper = omega arith;
-    }
+    added-shown : (p′ p : P) → p′ ≡ f p → K .fill (W c) (live K (W c) ++ p′ ∷ []) ≡ W (K .fill c (live K c ++ p ∷ []))
+    added-shown p′ p e = fill-shown c (live K c ++ p ∷ []) (rw (live-shown c, map-add f (live K c) p, e))
+
+    added-holds : (p : P) → F p → K .count c < 32 → Holds K at S F (K .fill c (live K c ++ p ∷ []))
+    added-holds p o lt =
+        holds-fill c (h .setup) (omega (arith, live-length (h .fit), length-append (live K c) (p ∷ []))) (all-add (h .all) o)
 
     no : (n : ℕ) → Proper n → Alike W (Holds K at S F) (refused (W c) n) (refused c n)
-    no n q = record { same = refl; kept = h; silent = refl; proper = q }
+    no n q = record { kept = h; same = refl; silent = refl; proper = q }
 
     counts : (n : ℕ) → leb n (K .count (W c)) ≡ leb n (K .count c)
     counts n = rw (k .count c)
@@ -182,15 +180,15 @@ module _ {H P C : Type 0} {K : Channel H P C} {at : C → Setup} {f : P → P} {
     adding-alike p′ p e o =
         on-le (Alike W (Holds K at S F)) 32 (K .count c) (counts 32)
         (λ _. no 5 (omega arith))
-        (λ lt. added _ _ e o lt)
+        (λ lt. record { kept = added-holds _ o lt; same = ap done (added-shown _ _ e); silent = refl; proper = omega arith })
 
     pub dropping-alike : (j : ℕ) → Alike W (Holds K at S F) (dropping K j (W c)) (dropping K j c)
     dropping-alike j =
         on-le (Alike W (Holds K at S F)) (K .count c) j (counted j)
         (λ _. no 4 (omega arith))
         (λ _. record {
-          same = ap done (removed-shown j);
           kept = removed-holds j;
+          same = ap done (removed-shown j);
           silent = refl;
           proper = omega arith;
         })
@@ -201,7 +199,12 @@ module _ {H P C : Type 0} {K : Channel H P C} {at : C → Setup} {f : P → P} {
         (λ _. no 4 (omega arith))
         (λ here. on-le (Alike W (Holds K at S F)) 32 (K .count c) (counts 32)
         (λ _. no 5 (omega arith))
-        (λ lt. added _ _ (packet-at-shown j here) (packet-at-holds j here) lt))
+        (λ lt. record {
+          kept = added-holds _ (packet-at-holds j here) lt;
+          same = ap done (added-shown _ _ (packet-at-shown j here));
+          silent = refl;
+          proper = omega arith;
+        }))
 
     pub ticked-shown : (L : ℕ) → ticked-channel K L (W c) ≡ W (ticked-channel K L c)
     ticked-shown L =

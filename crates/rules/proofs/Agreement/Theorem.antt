@@ -9,9 +9,7 @@ use lib.ListN.{length, getD, take, replicate}
 use borrow.Author.Tests.{ne-eqb}
 use Rattle.rules.specs.declared.Setup.{Setup}
 use Rattle.rules.specs.Numbers.{wrapped, whole, NC}
-use Rattle.rules.specs.Setups.{admitted}
 use Rattle.rules.specs.Parts.{fresh-bench, fresh-data-channel, fresh-ack-channel}
-use Rattle.rules.specs.Events.{Event}
 use Rattle.rules.specs.Runs.{Said, run, final, accepted, delivered}
 use Rattle.rules.specs.Agreement.{wrap, proper, Agreement}
 use Rattle.rules.proofs.Tests.{_and_}
@@ -21,7 +19,7 @@ use Rattle.rules.proofs.Agreement.Lists.{done, all-imply, every-is}
 use Rattle.rules.proofs.Agreement.Way.{gone}
 use Rattle.rules.proofs.Agreement.Ring.{Idle}
 use Rattle.rules.proofs.Agreement.Channels.{Proper, shows-datas, shows-acks, holds-fill}
-use Rattle.rules.proofs.Agreement.State.{Wide, wide, Inv}
+use Rattle.rules.proofs.Agreement.State.{Wide, wide, Inv, stretch}
 use Rattle.rules.proofs.Agreement.Runs.{take-stretch, log-of, log-of-stretch, Ran, ran}
 
 -- ---- fresh
@@ -73,41 +71,37 @@ is-proper : (a : Said) → Proper (a .answer) → proper a ≡ true
 unfolding proper
 is-proper a q = ap not (ne-eqb _ 2 (q .formed)) and ap not (ne-eqb _ 11 (q .near))
 
-module _ (S : Setup) (adm : admitted S ≡ true) (es : List Event) where
-  units : List ℕ
-  units = accepted es (run whole es (fresh-bench S))
-
-  log : ℕ → ℕ
-  log = log-of units (S .seq)
-
-  of-fresh : Ran S adm (wide (limits S adm)) log es (fresh-bench S)
-  unfolding units log
-  of-fresh =
-      ran S adm (wide (limits S adm)) log es (fresh-bench S) (fresh-inv S (wide (limits S adm)) log)
-      (rw (add-zero (S .seq)) (log-of-stretch units (S .seq)))
-
 pub agreement : Agreement
-unfolding units log
 agreement S adm es = record {
   answers = same;
   state = sym (ap (final wrapped es) fresh) ∙ r .last;
-  prefix = rw same (r .gave .list ∙ sym (ap (take n) (log-of-stretch acc (S .seq)) ∙ take-stretch _ (S .seq) n (length acc)
+  prefix = rw same (r .gave .list ∙ sym (ap (take n) said-by-log ∙ take-stretch log (S .seq) n (length units)
       (omega (arith, r .gave .moved, r .grew, r .kept .nums .nxt-end))));
   order = omega (arith, r .kept .nums);
   never = rw same (every-is proper (all-imply is-proper (r .proper)));
 }
   where
-    r : Ran S adm (wide (limits S adm)) (log S adm es) es (fresh-bench S)
-    r = of-fresh S adm es
+    -- the units that the run accepts, from the starting number on
+    units : List ℕ
+    units = accepted es (run whole es (fresh-bench S))
+
+    log : ℕ → ℕ
+    log = log-of units (S .seq)
+
+    said-by-log : units ≡ stretch log (S .seq) (length units)
+    said-by-log = log-of-stretch units (S .seq)
+
+    n : ℕ
+    n = length (delivered (run whole es (fresh-bench S)))
+
+    v : Wide S
+    v = wide (limits S adm)
+
+    r : Ran S adm v log es (fresh-bench S)
+    r = ran S adm v log es (fresh-bench S) (fresh-inv S v log) (rw (add-zero (S .seq)) said-by-log)
 
     fresh : wrap S (fresh-bench S) ≡ fresh-bench S
     fresh = fresh-wrap S (limits S adm)
 
     same : run wrapped es (fresh-bench S) ≡ run whole es (fresh-bench S)
     same = sym (ap (run wrapped es) fresh) ∙ r .same
-
-    acc : List ℕ
-    acc = accepted es (run whole es (fresh-bench S))
-
-    n : ℕ
-    n = length (delivered (run whole es (fresh-bench S)))
