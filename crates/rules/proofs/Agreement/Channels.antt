@@ -19,7 +19,7 @@ use Rattle.rules.specs.Rows.{row, remove, aged}
 use Rattle.rules.specs.Parts.{Channel, live, data-channel, ack-channel, new-data, new-ack, no-data, no-ack}
 use Rattle.rules.specs.Fit.{FitChannel}
 use Rattle.rules.specs.Malformed.{every, formed-channel}
-use Rattle.rules.specs.Events.{Out, refused, done, packet-at, adding, removed, dropping, copying, ticked-channel}
+use Rattle.rules.specs.Events.{Out, refused, done, may-find, may-add, packet-at, adding, removed, dropping, copying, ticked-channel}
 use Rattle.rules.specs.Agreement.{wrap-data, wrap-ack, wrap-datas, wrap-acks}
 use Rattle.rules.proofs.Tests.{_and_}
 use Rattle.rules.proofs.Rows.{live-row, length-row}
@@ -166,45 +166,45 @@ module _ {H P C : Type 0} {K : Channel H P C} {at : C → Setup} {f : P → P} {
     added-holds p o lt =
         holds-fill c (h .setup) (omega (arith, live-length (h .fit), length-append (live K c) (p ∷ []))) (all-add (h .all) o)
 
+    -- a refusal
     no : (n : ℕ) → Proper n → Alike W (Holds K at S F) (refused (W c) n) (refused c n)
     no n q = record { kept = h; same = refl; silent = refl; proper = q }
 
-    counts : (n : ℕ) → leb n (K .count (W c)) ≡ leb n (K .count c)
-    counts n = rw (k .count c)
+    -- 4 if there is no place j; 5 if the channel is full
+    find-alike : (j : ℕ) {y y′ : Out C} → (j < K .count c → Alike W (Holds K at S F) y y′)
+        → Alike W (Holds K at S F) (may-find (K .count (W c)) j (refused (W c)) y) (may-find (K .count c) j (refused c) y′)
+    find-alike j go =
+        on-le (Alike W (Holds K at S F)) (K .count c) j (ap (λ (n : ℕ). leb n j) (k .count c)) (λ _. no 4 (omega arith)) go
 
-    counted : (n : ℕ) → leb (K .count (W c)) n ≡ leb (K .count c) n
-    counted n = rw (k .count c)
+    add-alike : {y y′ : Out C} → (K .count c < 32 → Alike W (Holds K at S F) y y′)
+        → Alike W (Holds K at S F) (may-add (K .count (W c)) (refused (W c)) y) (may-add (K .count c) (refused c) y′)
+    add-alike go =
+        on-le (Alike W (Holds K at S F)) 32 (K .count c) (ap (leb 32) (k .count c)) (λ _. no 5 (omega arith)) go
 
     pub adding-alike : (p′ p : H) → K .new p′ ≡ f (K .new p) → F (K .new p)
         → Alike W (Holds K at S F) (adding K p′ (W c)) (adding K p c)
-    adding-alike p′ p e o =
-        on-le (Alike W (Holds K at S F)) 32 (K .count c) (counts 32)
-        (λ _. no 5 (omega arith))
-        (λ lt. record { kept = added-holds _ o lt; same = ap done (added-shown _ _ e); silent = refl; proper = omega arith })
+    adding-alike p′ p e o = add-alike (λ lt. record {
+      kept = added-holds _ o lt;
+      same = ap done (added-shown _ _ e);
+      silent = refl;
+      proper = omega arith;
+    })
 
     pub dropping-alike : (j : ℕ) → Alike W (Holds K at S F) (dropping K j (W c)) (dropping K j c)
-    dropping-alike j =
-        on-le (Alike W (Holds K at S F)) (K .count c) j (counted j)
-        (λ _. no 4 (omega arith))
-        (λ _. record {
-          kept = removed-holds j;
-          same = ap done (removed-shown j);
-          silent = refl;
-          proper = omega arith;
-        })
+    dropping-alike j = find-alike j (λ _. record {
+      kept = removed-holds j;
+      same = ap done (removed-shown j);
+      silent = refl;
+      proper = omega arith;
+    })
 
     pub copying-alike : (j : ℕ) → Alike W (Holds K at S F) (copying K j (W c)) (copying K j c)
-    copying-alike j =
-        on-le (Alike W (Holds K at S F)) (K .count c) j (counted j)
-        (λ _. no 4 (omega arith))
-        (λ here. on-le (Alike W (Holds K at S F)) 32 (K .count c) (counts 32)
-        (λ _. no 5 (omega arith))
-        (λ lt. record {
-          kept = added-holds _ (packet-at-holds j here) lt;
-          same = ap done (added-shown _ _ (packet-at-shown j here));
-          silent = refl;
-          proper = omega arith;
-        }))
+    copying-alike j = find-alike j (λ here. add-alike (λ lt. record {
+      kept = added-holds _ (packet-at-holds j here) lt;
+      same = ap done (added-shown _ _ (packet-at-shown j here));
+      silent = refl;
+      proper = omega arith;
+    }))
 
     pub ticked-shown : (L : ℕ) → ticked-channel K L (W c) ≡ W (ticked-channel K L c)
     ticked-shown L =

@@ -6,8 +6,9 @@ use mathlib.Core.Path.{_≡_, refl, ap}
 use mathlib.Core.Bool.{true}
 use Prim.Native.Nat.{ℕ, zero, suc, _+_, _-_, _/_, _%_, _≤_, _<_}
 use native.Mathlib.Nat.{zero-add, suc-add, sub-add-cancel}
+use native.Mathlib.Decide.{decLe}
 use native.Mathlib.Omega.{arith}
-use borrow.Author.Tests.{leb-true}
+use borrow.Author.Tests.{leb-true, le-leb, lt-leb}
 use Rattle.rules.specs.declared.Setup.{Setup}
 use Rattle.rules.specs.declared.Recent.{Recent}
 use Rattle.rules.specs.Numbers.{whole, wrapped, NC}
@@ -15,7 +16,6 @@ use Rattle.rules.specs.Parts.{none, since}
 use Rattle.rules.specs.Events.{older, passed}
 use Rattle.rules.specs.Agreement.{wrap-recent}
 use Rattle.rules.proofs.Wrap.{below-agree}
-use Rattle.rules.proofs.Agreement.Cases.{either-le}
 
 -- the history falls going back, by at most D for each tick
 pub record Falls (D : ℕ) (f : ℕ → ℕ) : Type 0 where
@@ -81,9 +81,10 @@ module _ {D : ℕ} {f : ℕ → ℕ} (fall : Falls D f) where
 
   pub kept-push : {L T m : ℕ} {r : Recent} → Kept L T f m r → Kept L (suc T) (push f) m (older L r)
   kept-push {L} (gone h) = gone (omega (arith, fall .down L))
-  kept-push {L} {T} {m} (held {a = a} h) =
-      either-le (Kept L (suc T) (push f) m) (suc a) L
-      (λ le. held (record {
+  kept-push {L} {T} {m} (held {t} {a} h) = by (decLe (suc a) L)
+    where
+      by : Dec (suc a ≤ L) → Kept L (suc T) (push f) m (older L (since t a))
+      by (yes le) = rw (le-leb (suc a) L le) (held {t = t} (record {
         c = suc (h .c);
         young = le;
         dated = omega (arith, h .dated);
@@ -91,7 +92,7 @@ module _ {D : ℕ} {f : ℕ → ℕ} (fall : Falls D f) where
         after = omega arith;
         high = h .high;
       }))
-      (λ gt. gone (omega (arith, falls-mono {i = L} {j = h .c} (omega arith))))
+      by (no gt) = rw (lt-leb (suc a) L (omega arith)) (gone (omega (arith, falls-mono {i = L} {j = h .c} (omega arith))))
 
 pub sent-push : {L W T x y stamp age : ℕ} {f : ℕ → ℕ} → suc age ≤ L → Sent L W T f x y stamp age
     → Sent L W (suc T) (push f) x y stamp (suc age)
