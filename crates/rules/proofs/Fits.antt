@@ -86,8 +86,8 @@ limits S e =
       seq-in = ltb-true _ _ (k .0);
       sclock-in = ltb-true _ _ (k .1);
       rclock-in = ltb-true _ _ (h .1);
-      room-seq = leb-true _ _ (g .1);
-      room-clock = leb-true _ _ (f .1);
+      room-seq = omega (arith, leb-true, g .1);
+      room-clock = omega (arith, leb-true, f .1);
     }
 
 pow-divides : {i j : ℕ} → i ≤ j → 2 ^ i ∣ 2 ^ j

@@ -9,3 +9,6 @@ pub mod Channels
 pub mod Turns
 pub mod Ends
 pub mod Session
+pub mod Examples
+pub mod Tight
+pub mod Agreement

@@ -11,3 +11,4 @@ pub mod Operations
 pub mod One
 pub mod Runs
 pub mod Examples
+pub mod Agreement
