@@ -19,6 +19,7 @@ use Rattle.rules.specs.Parts.{data-channel, bare-data}
 use Rattle.rules.specs.Events.{Out, refused, Delivery, and-first, deliver, may-store, advanced, stored, arriving, packet-at, without-data, bench-data}
 use Rattle.rules.specs.Agreement.{wrap-receiver, wrap-data, wrap}
 use Rattle.rules.proofs.Wrap.{place-agree, View, back, fore, view}
+use Rattle.rules.proofs.Deliveries.{within-some}
 use Rattle.rules.proofs.Agreement.Cases.{on-bool, on-le, on-eq}
 use Rattle.rules.proofs.Agreement.Way.{now, distance, sent-high, sent-now, kept-now, kept-set, passed-agree}
 use Rattle.rules.proofs.Agreement.Ring.{Marks, marks-store, marks-next, head-stays}
@@ -50,7 +51,7 @@ module _ (S : Setup) (v : Wide S) (log : ℕ → ℕ) where
   at-head {n} {mk = mk} k t =
       let some = v .fit .some in
       let t′ : marked mk ((n + 0) % S .window) ≡ true = rw (add-zero n) t in
-      (omega (arith, k .known 0 some t′), k .within .near 0 some t′, rw (add-zero n) at (k .value 0 some t′))
+      (omega (arith, k .known 0 some t′), within-some some (k .within) t, rw (add-zero n) at (k .value 0 some t′))
 
   -- nothing is delivered any more
   run-stop : {fin n w : ℕ} {sl : List ℕ} {mk : ℕ} → n ≤ fin → Marks (S .window) log n fin w sl mk

@@ -8,7 +8,7 @@ use Prim.Native.Nat.{ℕ, zero, suc, _-_, _≤_, _<_}
 use native.Mathlib.Nat.{zero-mod}
 use native.Mathlib.Omega.{arith}
 use lib.Dec.{leb}
-use lib.ListN.{length, drop, replicate, length-map, length-take, length-append}
+use lib.ListN.{length, drop, replicate, length-map}
 use lib.Seq.{drop-append-seam}
 use borrow.Author.Tests.{le-leb}
 use Rattle.rules.specs.declared.Setup.{Setup}
@@ -22,7 +22,8 @@ use Rattle.rules.specs.Malformed.{every, formed-channel}
 use Rattle.rules.specs.Events.{Out, refused, done, may-find, may-add, packet-at, adding, removed, dropping, copying, ticked-channel}
 use Rattle.rules.specs.Agreement.{wrap-data, wrap-ack, wrap-datas, wrap-acks}
 use Rattle.rules.proofs.Tests.{_and_}
-use Rattle.rules.proofs.Rows.{live-row, length-row}
+use Rattle.rules.proofs.Rows.{live-row}
+use Rattle.rules.proofs.Channels.{length-live, length-added}
 use Rattle.rules.proofs.Agreement.Cases.{on-le}
 use Rattle.rules.proofs.Agreement.Lists.{All, all-add, all-remove, all-getD, all-imply, all-aged, every-is, map-add, map-remove, map-getD, map-aged, map-take, map-row, length-remove-le, length-aged-le}
 
@@ -97,16 +98,9 @@ pub record Holds {H P C : Type 0} (K : Channel H P C) (at : C → Setup) (S : Se
   pub fit : FitChannel K c
   pub all : All F (live K c)
 
-module _ {H P C : Type 0} {K : Channel H P C} where
-  pub holds-imply : {at : C → Setup} {S : Setup} {F G : P → Type 0} {c : C} → ((p : P) → F p → G p) → Holds K at S F c
-      → Holds K at S G c
-  holds-imply f h = record { setup = h .setup; fit = h .fit; all = all-imply f (h .all) }
-
-  pub live-length : {c : C} → FitChannel K c → length (live K c) ≡ K .count c
-  live-length {c} h =
-      let few = h .few in
-      let short : length (live K c) ≤ 32 = omega (arith, length-take (K .count c) (K .packets c)) in
-      omega (arith, length-take (K .count c) (K .packets c), ap length (h .rest), length-row (K .new (K .nothing)) (live K c) short)
+pub holds-imply : {H P C : Type 0} {K : Channel H P C} {at : C → Setup} {S : Setup} {F G : P → Type 0} {c : C}
+    → ((p : P) → F p → G p) → Holds K at S F c → Holds K at S G c
+holds-imply f h = record { setup = h .setup; fit = h .fit; all = all-imply f (h .all) }
 
 module _ {H P C : Type 0} {K : Channel H P C} {at : C → Setup} {f : P → P} {W : C → C} (k : Shows K at f W) where
   pub live-fill : (c : C) (l : List P) → live K (K .fill c l) ≡ l
@@ -141,7 +135,7 @@ module _ {H P C : Type 0} {K : Channel H P C} {at : C → Setup} {f : P → P} {
   -- ---- a fact of each packet, under an event
   module _ {S : Setup} {F : P → Type 0} {c : C} (h : Holds K at S F c) where
     inside : {j : ℕ} → j < K .count c → j < length (live K c)
-    inside lt = omega (arith, live-length (h .fit))
+    inside lt = omega (arith, length-live K c (h .fit))
 
     pub packet-at-shown : (j : ℕ) → j < K .count c → packet-at K j (W c) ≡ f (packet-at K j c)
     packet-at-shown j lt = rw (live-shown c) (map-getD f (live K c) j (K .new (K .nothing)) (K .new (K .nothing)) (inside lt))
@@ -155,7 +149,7 @@ module _ {H P C : Type 0} {K : Channel H P C} {at : C → Setup} {f : P → P} {
     pub removed-holds : (j : ℕ) → Holds K at S F (removed K j c)
     removed-holds j =
         let few = h .fit .few in
-        holds-fill c (h .setup) (omega (arith, live-length (h .fit), length-remove-le j (live K c))) (all-remove j (h .all))
+        holds-fill c (h .setup) (omega (arith, length-live K c (h .fit), length-remove-le j (live K c))) (all-remove j (h .all))
 
     -- p at the end, and p′ where it is shown
     added-shown : (p′ p : P) → p′ ≡ f p → K .fill (W c) (live K (W c) ++ p′ ∷ []) ≡ W (K .fill c (live K c ++ p ∷ []))
@@ -163,7 +157,7 @@ module _ {H P C : Type 0} {K : Channel H P C} {at : C → Setup} {f : P → P} {
 
     added-holds : (p : P) → F p → K .count c < 32 → Holds K at S F (K .fill c (live K c ++ p ∷ []))
     added-holds p o lt =
-        holds-fill c (h .setup) (omega (arith, live-length (h .fit), length-append (live K c) (p ∷ []))) (all-add (h .all) o)
+        holds-fill c (h .setup) (omega (arith, length-added K c (h .fit) p)) (all-add (h .all) o)
 
     -- a refusal
     no : (n : ℕ) → Proper n → Alike W (Holds K at S F) (refused (W c) n) (refused c n)
@@ -211,7 +205,7 @@ module _ {H P C : Type 0} {K : Channel H P C} {at : C → Setup} {f : P → P} {
         → Holds K at S G (ticked-channel K L c)
     ticked-holds L g =
         let few = h .fit .few in
-        holds-fill c (h .setup) (omega (arith, live-length (h .fit), length-aged-le (K .age) (K .older) L (live K c)))
+        holds-fill c (h .setup) (omega (arith, length-live K c (h .fit), length-aged-le (K .age) (K .older) L (live K c)))
         (all-aged (K .age) (K .older) L g (h .all))
 
 -- ---- no such channel is malformed
@@ -232,4 +226,4 @@ formed-of-fit {P = P} K z right {c} h a =
     le-leb _ _ (h .few)
     and every-is right a
     and (ap (λ (x : List P). every (K .is-nothing) (drop (K .count c) x)) (h .rest)
-    ∙ every-rest (K .is-nothing) (K .new (K .nothing)) z (live K c) (K .count c) (sym (live-length h)))
+    ∙ every-rest (K .is-nothing) (K .new (K .nothing)) z (live K c) (K .count c) (sym (length-live K c h)))
