@@ -1,7 +1,7 @@
 -- Short runs, one for each slip that looks right: what the rules answer where the slip would answer otherwise. (The comparison of
 -- timestamps as plain numbers is refused by row (j) of the marked examples.)
 use mathlib.Core.Path.{_≡_, refl}
-use mathlib.Core.List.{List, [], _∷_, _++_, map}
+use mathlib.Core.List.{List, [], _∷_, _++_}
 use Prim.Native.Nat.{ℕ}
 use lib.ListN.{replicate}
 use Rattle.rules.specs.Numbers.{dist, wrapped}
@@ -38,12 +38,13 @@ smaller = acknowledge ∷ room ∷ acknowledge ∷ hear 1 ∷ hear 0 ∷ accept 
 abbrev all-done : ℕ → List Said
 all-done n = replicate n (only 0)
 
+abbrev pub answers : List Event → List Said
+answers es = run wrapped es (fresh-bench S)
+
 pub slips :
-    map (λ (es : List Event). run wrapped es (fresh-bench S)) (sent-again ∷ idle ∷ copied ∷ smaller ∷ [])
-    ≡ (all-done 12 ++ record { answer = 0; units = 500 ∷ 740 ∷ [] } ∷ [])
-    ∷ all-done 8
-    ∷ (all-done 8 ++ only 4 ∷ [])
-    ∷ all-done 6
-    ∷ []
+    (answers sent-again ≡ all-done 12 ++ record { answer = 0; units = 500 ∷ 740 ∷ [] } ∷ [])
+    × (answers idle ≡ all-done 8)
+    × (answers copied ≡ all-done 8 ++ only 4 ∷ [])
+    × (answers smaller ≡ all-done 6)
 unfolding run step act dist marked mark unmark row malformed-bench formed-bench formed-sender formed-receiver formed-channel formed-data formed-ack right-data right-ack formed-recent is-no-data is-no-ack same-setup every all-from admitted in-limits in-ranges is-window _also_
-slips = refl
+slips = (refl, refl, refl, refl)
