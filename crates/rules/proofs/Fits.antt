@@ -244,7 +244,7 @@ fit-bench b nd na e =
     record {
       sender = formed-is-fit-sender (b .sender) f (snd .1);
       receiver = formed-is-fit-receiver (b .receiver) (subst FitSetup er f)
-        (subst (λ (T : Setup). formed-receiver (wrapped T) T (b .receiver) ≡ true) er (rcv .1));
+          (subst (λ (T : Setup). formed-receiver (wrapped T) T (b .receiver) ≡ true) er (rcv .1));
       datas = fit-datas _ (b .datas) nd (datas .1);
       acks = fit-acks _ (b .acks) na (acks .1);
       same-receiver = sym er;

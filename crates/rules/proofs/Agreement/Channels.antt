@@ -35,11 +35,10 @@ pub record Proper (n : ℕ) : Type 0 where
 abbrev pub shown : {X : Type 0} → (X → X) → Out X → Out X
 shown W o = record { answer = o .answer; units = o .units; state = W (o .state) }
 
--- an event on both: the one is the other shown, and a fact of the state is kept; it delivers nothing
+-- an event on both: the one is the other shown, and a fact of the state is kept
 pub record Alike {X : Type 0} (W : X → X) (P : X → Type 0) (w z : Out X) : Type 0 where
   pub kept : P (z .state)
   pub same : w ≡ shown W z
-  pub silent : z .units ≡ []
   pub proper : Proper (z .answer)
 
 -- ---- a channel whose setup is found by `at`, whose packets are shown by f, and which is itself shown by W
@@ -168,7 +167,7 @@ module _ {H P C : Type 0} {K : Channel H P C} {at : C → Setup} {f : P → P} {
 
     -- a refusal
     no : (n : ℕ) → Proper n → Alike W (Holds K at S F) (refused (W c) n) (refused c n)
-    no n q = record { kept = h; same = refl; silent = refl; proper = q }
+    no n q = record { kept = h; same = refl; proper = q }
 
     -- 4 if there is no place j; 5 if the channel is full
     find-alike : (j : ℕ) {y y′ : Out C} → (j < K .count c → Alike W (Holds K at S F) y y′)
@@ -186,7 +185,6 @@ module _ {H P C : Type 0} {K : Channel H P C} {at : C → Setup} {f : P → P} {
     adding-alike p′ p e o = add-alike (λ lt. record {
       kept = added-holds _ o lt;
       same = ap done (added-shown _ _ e);
-      silent = refl;
       proper = omega arith;
     })
 
@@ -194,7 +192,6 @@ module _ {H P C : Type 0} {K : Channel H P C} {at : C → Setup} {f : P → P} {
     dropping-alike j = find-alike j (λ _. record {
       kept = removed-holds j;
       same = ap done (removed-shown j);
-      silent = refl;
       proper = omega arith;
     })
 
@@ -202,7 +199,6 @@ module _ {H P C : Type 0} {K : Channel H P C} {at : C → Setup} {f : P → P} {
     copying-alike j = find-alike j (λ here. add-alike (λ lt. record {
       kept = added-holds _ (packet-at-holds j here) lt;
       same = ap done (added-shown _ _ (packet-at-shown j here));
-      silent = refl;
       proper = omega arith;
     }))
 

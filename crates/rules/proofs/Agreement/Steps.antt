@@ -144,7 +144,7 @@ module _ (S : Setup) (v : Wide S) (log : ℕ → ℕ) where
     good-datas a = record {
       same = ap (on-datas (wrap S b)) (a .same);
       kept = with-datas (a .kept);
-      gave = record { list = rw (a .silent); moved = rw (a .silent) (omega arith) };
+      gave = record { list = refl; moved = omega arith };
       grew = omega arith;
       proper = a .proper;
     }
@@ -155,7 +155,7 @@ module _ (S : Setup) (v : Wide S) (log : ℕ → ℕ) where
     good-acks a = record {
       same = ap (on-acks (wrap S b)) (a .same);
       kept = with-acks (a .kept);
-      gave = record { list = rw (a .silent); moved = rw (a .silent) (omega arith) };
+      gave = record { list = refl; moved = omega arith };
       grew = omega arith;
       proper = a .proper;
     }
