@@ -129,21 +129,22 @@ pub fn duplicate(c: AckChannel, j: u64) -> AckChannelDone
     ensures { λ r. ⌜ r ≡ ack-channel-done (copying ack-channel j c) ⌝ }
 {
     let n = c.count;
-    if n as u64 <= j {
+    let held = n as u64;
+    if held <= j {
         return AckChannelDone {
             answer: 4,
             channel: c,
         };
     }
-    if 32 <= n {
+    if 32 <= held {
         return AckChannelDone {
             answer: 5,
             channel: c,
         };
     }
     let from = j as usize;
-    let p = c.packets[from];
     let at = n as usize;
+    let p = c.packets[from];
     let mut d = c;
     d.packets[at] = p;
     d.count = n + 1;
