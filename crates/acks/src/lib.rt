@@ -23,9 +23,10 @@ pub fn fresh(s: Setup) -> AckChannelDone
             channel: core::empty(s),
         }
     } else {
+        let z = setup::zero();
         AckChannelDone {
             answer: 1,
-            channel: core::empty(setup::zero()),
+            channel: core::empty(z),
         }
     }
 }

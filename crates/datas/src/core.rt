@@ -1,7 +1,6 @@
 // The data channel's work, on a channel that is not malformed, and the test of whether it is.
 ghost use mathlib.Core.Path.{_≡_};
-ghost use Prim.Native.Nat.{ℕ, _+_, _<_, _≤_};
-ghost use lib.ListN.{take};
+ghost use Prim.Native.Nat.{_+_, _<_};
 ghost use Rattle.rules.specs.Numbers.{wrapped};
 ghost use Rattle.rules.specs.Rows.{closed};
 ghost use Rattle.rules.specs.Parts.{data-channel, no-data, fresh-data-channel};
@@ -10,19 +9,12 @@ ghost use Rattle.rules.specs.Places.{right-place, right-places};
 ghost use Rattle.rules.specs.Fit.{FitSetup, FitChannel};
 ghost use Rattle.rules.specs.Events.{adding, taking, dropping, copying, removed, ticked-channel};
 ghost use Rattle.rules.specs.Operations.{data-channel-done, data-channel-taken};
-ghost use Rattle.datas.specs.Kept.{kept};
 use rules::BareData;
 use rules::DataChannel;
 use rules::DataChannelDone;
 use rules::DataChannelTaken;
 use rules::DataPacket;
 use rules::Setup;
-
-// The packets that a tick leaves, and how many.
-pub struct Kept {
-    pub packets: [DataPacket; 32],
-    pub count: u32,
-}
 
 pub fn nothing() -> BareData
     ensures { λ r. ⌜ r ≡ data-channel .nothing ⌝ }
@@ -129,21 +121,22 @@ pub fn duplicate(c: DataChannel, j: u64) -> DataChannelDone
     ensures { λ r. ⌜ r ≡ data-channel-done (copying data-channel j c) ⌝ }
 {
     let n = c.count;
-    if n as u64 <= j {
+    let held = n as u64;
+    if held <= j {
         return DataChannelDone {
             answer: 4,
             channel: c,
         };
     }
-    if 32 <= n {
+    if 32 <= held {
         return DataChannelDone {
             answer: 5,
             channel: c,
         };
     }
     let from = j as usize;
-    let p = c.packets[from];
     let at = n as usize;
+    let p = c.packets[from];
     let mut d = c;
     d.packets[at] = p;
     d.count = n + 1;
@@ -153,18 +146,33 @@ pub fn duplicate(c: DataChannel, j: u64) -> DataChannelDone
     }
 }
 
+// Every packet becomes one older; those that stay move up to close the gaps.
 pub fn tick(c: DataChannel) -> DataChannel
     requires { ⌜ FitChannel data-channel c ⌝ }
     ensures { λ r. ⌜ r ≡ ticked-channel data-channel (c .setup .life) c ⌝ }
 {
     let setup = c.setup;
     let ps = c.packets;
-    let left = older(ps, c.count, setup.life);
-    let out = left.packets;
+    let n = c.count;
+    let life = setup.life;
+    let z = with_age(nothing());
+    let mut out = [z; 32];
+    let mut k: u32 = 0;
+    let mut i: u32 = 0;
+    while i < n {
+        let from = i as usize;
+        let p = ps[from];
+        if p.age < life {
+            let at = k as usize;
+            out[at] = one_older(p);
+            k += 1;
+        }
+        i += 1;
+    }
     DataChannel {
         setup,
         packets: out,
-        count: left.count,
+        count: k,
     }
 }
 
@@ -208,31 +216,6 @@ fn one_older(p: DataPacket) -> DataPacket
         stamp: p.stamp,
         unit: p.unit,
         age: p.age + 1,
-    }
-}
-
-// A tick on the first n packets: those that stay move up to close the gaps.
-fn older(ps: [DataPacket; 32], n: u32, life: u32) -> Kept
-    requires { ⌜ n ≤ 32 ⌝ }
-    ensures { λ r. ⌜ r ≡ kept life (take n ps) ⌝ }
-{
-    let z = with_age(nothing());
-    let mut out = [z; 32];
-    let mut k: u32 = 0;
-    let mut i: u32 = 0;
-    while i < n {
-        let from = i as usize;
-        let p = ps[from];
-        if p.age < life {
-            let at = k as usize;
-            out[at] = one_older(p);
-            k += 1;
-        }
-        i += 1;
-    }
-    Kept {
-        packets: out,
-        count: k,
     }
 }
 

@@ -23,9 +23,10 @@ pub fn fresh(s: Setup) -> DataChannelDone
             channel: core::empty(s),
         }
     } else {
+        let z = setup::zero();
         DataChannelDone {
             answer: 1,
-            channel: core::empty(setup::zero()),
+            channel: core::empty(z),
         }
     }
 }

@@ -1,10 +1,10 @@
 -- What the code does to a channel's array and count, as the rules' list of packets: over either channel, where it is not malformed.
 use mathlib.Core.Path.{_≡_, ap, sym, _∙_}
-use mathlib.Core.Bool.{Bool, true, false, cond}
+use mathlib.Core.Bool.{Bool, false}
 use mathlib.Core.List.{List, [], _∷_, _++_}
-use Prim.Native.Nat.{ℕ, suc, _+_, _-_, _≤_, _<_}
+use Prim.Native.Nat.{ℕ, _+_, _-_, _≤_, _<_}
 use native.Mathlib.Omega.{arith}
-use lib.ListN.{length, getD, take, set, replicate, length-append, length-take, length-map}
+use lib.ListN.{length, getD, set, length-append, length-take, length-map}
 use lib.Seq.{length-take-le, getD-take}
 use mir.Val.{Val}
 use denote.Laws.{Is}
@@ -17,7 +17,7 @@ use Rattle.rules.specs.Numbers.{wrapped}
 use Rattle.rules.specs.Setups.{_also_}
 use Rattle.rules.specs.Rows.{row, remove, closed}
 use Rattle.rules.specs.Parts.{Channel, live, data-channel, ack-channel}
-use Rattle.rules.specs.Malformed.{every, formed-channel, malformed-data-channel, malformed-ack-channel}
+use Rattle.rules.specs.Malformed.{formed-channel, malformed-data-channel, malformed-ack-channel}
 use Rattle.rules.specs.Places.{right-places}
 use Rattle.rules.specs.Fit.{FitSetup, FitChannel}
 use Rattle.rules.specs.Events.{packet-at}
@@ -26,38 +26,42 @@ use Rattle.rules.proofs.Loops.{by-places}
 use Rattle.rules.proofs.Rows.{row-added, row-removed, length-row, length-remove}
 use Rattle.rules.proofs.Fits.{limits, fit-setup, fit-datas, fit-acks}
 
+-- an empty place
+abbrev pub empty : {H P C : Type 0} → Channel H P C → P
+empty K = K .new (K .nothing)
+
 -- ---- a channel that is fit: its array and its count after an operation
 module _ {H P C : Type 0} (K : Channel H P C) (c : C) (f : FitChannel K c) where
   -- the array has 32 places, and as many packets as the count says
   pub length-packets : length (K .packets c) ≡ 32
   length-packets =
-      ap length (f .rest) ∙ length-row (K .new (K .nothing)) (live K c) (omega (arith, f .few, length-take (K .count c) (K .packets c)))
+      ap length (f .rest) ∙ length-row (empty K) (live K c) (omega (arith, f .few, length-take (K .count c) (K .packets c)))
 
   pub length-live : length (live K c) ≡ K .count c
   length-live = length-take-le (K .count c) (K .packets c) (omega (arith, f .few, length-packets))
 
   -- the packet at a place of the array is the packet at that place
-  pub found : (j : ℕ) → j < K .count c → getD (K .packets c) j (K .new (K .nothing)) ≡ packet-at K j c
-  found j h = sym (getD-take (K .count c) (K .packets c) j (K .new (K .nothing)) h)
+  pub found : (j : ℕ) → j < K .count c → getD (K .packets c) j (empty K) ≡ packet-at K j c
+  found j h = sym (getD-take (K .count c) (K .packets c) j (empty K) h)
 
   -- a packet stored at the first empty place
-  pub packets-added : (p : P) → K .count c < 32 → set (K .packets c) (K .count c) p ≡ row (K .new (K .nothing)) (live K c ++ p ∷ [])
+  pub packets-added : (p : P) → K .count c < 32 → set (K .packets c) (K .count c) p ≡ row (empty K) (live K c ++ p ∷ [])
   packets-added p h =
       ap (λ (l : List P). set l (K .count c) p) (f .rest)
-      ∙ ap (λ (n : ℕ). set (row (K .new (K .nothing)) (live K c)) n p) (sym length-live)
-      ∙ row-added (K .new (K .nothing)) (live K c) p (omega (arith, length-live))
+      ∙ ap (λ (n : ℕ). set (row (empty K) (live K c)) n p) (sym length-live)
+      ∙ row-added (empty K) (live K c) p (omega (arith, length-live))
 
   pub length-added : (p : P) → length (live K c ++ p ∷ []) ≡ K .count c + 1
   length-added p = omega (arith, length-live, length-append (live K c) (p ∷ []))
 
   -- the gap of the packet at j closed
-  pub packets-removed : (j : ℕ) → j < K .count c → closed (K .new (K .nothing)) (K .packets c) j ≡ row (K .new (K .nothing)) (remove j (live K c))
+  pub packets-removed : (j : ℕ) → j < K .count c → closed (empty K) (K .packets c) j ≡ row (empty K) (remove j (live K c))
   packets-removed j h =
-      ap (λ (l : List P). closed (K .new (K .nothing)) l j) (f .rest)
-      ∙ row-removed (K .new (K .nothing)) (live K c) j (omega (arith, length-live)) (omega (arith, length-live, f .few))
+      ap (λ (l : List P). closed (empty K) l j) (f .rest)
+      ∙ row-removed (empty K) (live K c) j (omega (arith, length-live)) (omega (arith, length-live, f .few))
 
   pub length-removed : (j : ℕ) → j < K .count c → length (remove j (live K c)) ≡ K .count c - 1
-  length-removed j h = omega (arith, length-live, length-remove (K .new (K .nothing)) j (live K c) (omega (arith, length-live)))
+  length-removed j h = omega (arith, length-live, length-remove (empty K) j (live K c) (omega (arith, length-live)))
 
 -- ---- the test of a channel
 module _ {H P C : Type 0} (K : Channel H P C) (right : P → Bool) (c : C) where
@@ -68,7 +72,7 @@ module _ {H P C : Type 0} (K : Channel H P C) (right : P → Bool) (c : C) where
   -- with few enough packets it is the test of each place
   pub formed-places : K .count c ≤ 32 → length (K .packets c) ≡ 32 → right-places K right (K .count c) (K .packets c) ≡ formed-channel K right c
   unfolding formed-channel right-places _also_
-  formed-places h n = rw (le-leb (K .count c) 32 h) (rw (← n) (sym (by-places (K .new (K .nothing)) right (K .is-nothing) (K .count c) (K .packets c))))
+  formed-places h n = rw (le-leb (K .count c) 32 h) (rw (← n) (sym (by-places (empty K) right (K .is-nothing) (K .count c) (K .packets c))))
 
 -- ---- a channel that is not malformed: its setup is admitted, and it is fit. A value of the type has 32 places
 pub places-datas : (c : DataChannel) (vs : List Val) → Is data-row c vs → length (c .packets) ≡ 32

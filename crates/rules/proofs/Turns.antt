@@ -11,6 +11,7 @@ use Rattle.rules.specs.Rows.{row, aged, closed}
 use Rattle.rules.specs.Parts.{Channel}
 use Rattle.rules.specs.Malformed.{all-from}
 use Rattle.rules.specs.Places.{right-place, right-places}
+use Rattle.rules.proofs.Channels.{empty}
 use Rattle.rules.proofs.Loops.{all-more, all-stop, all-end}
 use Rattle.rules.proofs.Rows.{passed-more, left-more, left-at, passed-all, length-closed, closed-before, closed-at, closed-last, turn-kept, turn-gone}
 
@@ -46,40 +47,40 @@ module _ {H P C : Type 0} (K : Channel H P C) (L : ℕ) (ps : List P) (n : ℕ) 
   left i = aged (K .age) (K .older) L (take i ps)
 
   abbrev pub Ticking : List P → ℕ → ℕ → Type 0
-  Ticking out k i = (i ≤ n) × (k ≤ i) × (out ≡ row (K .new (K .nothing)) (left i)) × (k ≡ length (left i))
+  Ticking out k i = (i ≤ n) × (k ≤ i) × (out ≡ row (empty K) (left i)) × (k ≡ length (left i))
 
-  pub ticking-start : {z : P} → z ≡ K .new (K .nothing) → Ticking (replicate 32 z) 0 0
+  pub ticking-start : {z : P} → z ≡ empty K → Ticking (replicate 32 z) 0 0
   unfolding row
   ticking-start e = (omega arith, omega arith, rw e, refl)
 
   module _ (le : n ≤ 32) (few : length ps ≡ 32) (out : List P) (k i : ℕ) (inv : Ticking out k i) where
     module _ (lt : i < n) where
-      pub ticking-kept : {out′ : List P} {k′ : ℕ} {q : P} → K .age (getD ps i (K .new (K .nothing))) < L
-          → q ≡ K .older (getD ps i (K .new (K .nothing))) → out′ ≡ set out k q → k′ ≡ k + 1 → Ticking out′ k′ (i + 1)
+      pub ticking-kept : {out′ : List P} {k′ : ℕ} {q : P} → K .age (getD ps i (empty K)) < L
+          → q ≡ K .older (getD ps i (empty K)) → out′ ≡ set out k q → k′ ≡ k + 1 → Ticking out′ k′ (i + 1)
       ticking-kept h e o s =
-          let r = turn-kept (K .new (K .nothing)) (K .age) (K .older) L ps i (omega arith) k out (inv .1) (omega arith) (inv .2) (inv .3) h e o s in
+          let r = turn-kept (empty K) (K .age) (K .older) L ps i (omega arith) k out (inv .1) (omega arith) (inv .2) (inv .3) h e o s in
           (omega arith, r .0, r .1, r .2)
 
-      pub ticking-gone : {out′ : List P} {k′ : ℕ} → L ≤ K .age (getD ps i (K .new (K .nothing))) → out′ ≡ out → k′ ≡ k → Ticking out′ k′ (i + 1)
+      pub ticking-gone : {out′ : List P} {k′ : ℕ} → L ≤ K .age (getD ps i (empty K)) → out′ ≡ out → k′ ≡ k → Ticking out′ k′ (i + 1)
       ticking-gone h o s =
-          let r = turn-gone (K .new (K .nothing)) (K .age) (K .older) L ps i (omega arith) k out (inv .1) (omega arith) (inv .2) (inv .3) h o s in
+          let r = turn-gone (empty K) (K .age) (K .older) L ps i (omega arith) k out (inv .1) (omega arith) (inv .2) (inv .3) h o s in
           (omega arith, r .0, r .1, r .2)
 
-    pub ticking-end : n ≤ i → (out ≡ row (K .new (K .nothing)) (left n)) × (k ≡ length (left n))
+    pub ticking-end : n ≤ i → (out ≡ row (empty K) (left n)) × (k ≡ length (left n))
     ticking-end h = let e : i ≡ n = omega arith in (rw e at (inv .2), rw e at (inv .3))
 
 -- ---- the test of each place: the whole test is that of the places from i on
 module _ {H P C : Type 0} (K : Channel H P C) (right : P → Bool) (n : ℕ) (ps : List P) where
   abbrev pub Testing : ℕ → Type 0
   Testing i =
-      (i ≤ 32) × (right-places K right n ps ≡ all-from (λ (k : ℕ). right-place K right n k (getD ps k (K .new (K .nothing)))) i (32 - i))
+      (i ≤ 32) × (right-places K right n ps ≡ all-from (λ (k : ℕ). right-place K right n k (getD ps k (empty K))) i (32 - i))
 
   pub testing-start : Testing 0
   unfolding right-places
   testing-start = (omega arith, refl)
 
   module _ (i : ℕ) (inv : Testing i) where
-    module _ (lt : i < 32) {r : Bool} (e : r ≡ right-place K right n i (getD ps i (K .new (K .nothing)))) where
+    module _ (lt : i < 32) {r : Bool} (e : r ≡ right-place K right n i (getD ps i (empty K))) where
       pub testing-stop : not r ≡ true → false ≡ right-places K right n ps
       testing-stop h = sym (inv .1 ∙ all-stop _ 32 i lt (sym e ∙ not-true r h))
 
