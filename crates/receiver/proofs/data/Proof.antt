@@ -35,7 +35,7 @@ returns-3 c =
     rw (sound (long .before .before), le-ltb _ _ (long .if2 .left), sym (c .before .data-in-range .ensures) ∙ not-true _ (c .if3 .taken)) (refl, refl)
 
 -- the packet's fields are in their ranges
-right : (c : tie.Else3) → right-data (wrapped (c .before .before .before .before .before .before .before .args .r .setup)) (c .before .before .before .before .before .before .before .args .r .setup) (c .before .before .before .before .before .before .before .args .p) ≡ true
+right : (c : tie.Else3) → let a = c .before .before .before .before .before .before .before .args in right-data (wrapped (a .r .setup)) (a .r .setup) (a .p) ≡ true
 right c = sym (c .before .data-in-range .ensures) ∙ not-false _ (c .if3 .left)
 
 data-requires : tie.Need-data-requires
