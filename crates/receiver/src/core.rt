@@ -1,6 +1,6 @@
 // The receiver's events on a receiver that is not malformed, by value, and the test of whether it is. The work is in `lent`.
 ghost use mathlib.Core.Path.{_≡_};
-ghost use Prim.Native.Nat.{ℕ, _-_, _≤_, _<_};
+ghost use Prim.Native.Nat.{_-_, _≤_, _<_};
 ghost use lib.ListN.{length};
 ghost use Rattle.rules.specs.Numbers.{wrapped};
 ghost use Rattle.rules.specs.Rows.{laid};

@@ -2,7 +2,7 @@
 // place calls this.
 ghost use mathlib.Core.Path.{_≡_};
 ghost use mathlib.Core.List.{[]};
-ghost use Prim.Native.Nat.{ℕ, _≤_, _<_, _∣_, _^_};
+ghost use Prim.Native.Nat.{ℕ, _≤_, _∣_, _^_};
 ghost use lib.ListN.{length};
 ghost use Rattle.rules.specs.Numbers.{wrapped};
 ghost use Rattle.rules.specs.Fit.{FitReceiver, FitData};

@@ -22,7 +22,9 @@ unused-above-requires c κs = search needs
 
 returns : tie.Need-returns
 unfolding formed-receiver _also_
-returns c = rw (c .before .before .before .before .before .in-range .ensures, c .before .before .before .in-range2 .ensures, c .before .before .formed .ensures, c .before .right-ahead .ensures, c .unused-above .ensures)
+returns c =
+    let ranged = c .before .before .before in
+    rw (ranged .before .before .in-range .ensures, ranged .in-range2 .ensures, c .before .before .formed .ensures, c .before .right-ahead .ensures, c .unused-above .ensures)
 
 pub formed-spec : {M : Type 1} → statement M
 formed-spec =

@@ -1,5 +1,4 @@
 -- `room` meets its contract: room for the head is room for the whole.
-use mathlib.Core.Path.{_∙_}
 use Rattle.receiver.proofs.Cases.{fit-head, opening-whole}
 use borrow.Author.Needs.{needs}
 use Rattle.receiver.proofs.core.room.Statement.{statement}

@@ -22,7 +22,9 @@ unused-at-requires : tie.Need-unused-at-requires Inv-loop μ-loop
 unused-at-requires c κs = omega arith
 
 returns : tie.Need-returns Inv-loop μ-loop
-returns c = sym (c .before .before .before .loop .inv .1 ∙ all-stop _ _ _ (c .before .before .loop-test .taken) (sym (c .before .unused-at .ensures) ∙ not-true _ (c .if1 .taken)))
+returns c =
+    sym (c .before .before .before .loop .inv .1
+    ∙ all-stop _ _ _ (c .before .before .loop-test .taken) (sym (c .before .unused-at .ensures) ∙ not-true _ (c .if1 .taken)))
 
 add-i : tie.Need-add-i Inv-loop μ-loop
 add-i c = omega arith
@@ -31,7 +33,11 @@ loop-less : tie.Need-loop-less Inv-loop μ-loop
 loop-less c = omega arith
 
 loop-again : tie.Need-loop-again Inv-loop μ-loop
-loop-again c = (omega arith, c .before .before .before .loop .inv .1 ∙ all-more _ _ _ (c .before .before .loop-test .taken) (sym (c .before .unused-at .ensures) ∙ not-false _ (c .if1 .left)))
+loop-again c = (
+  omega arith,
+  c .before .before .before .loop .inv .1
+      ∙ all-more _ _ _ (c .before .before .loop-test .taken) (sym (c .before .unused-at .ensures) ∙ not-false _ (c .if1 .left)),
+)
 
 returns-2 : tie.Need-returns-2 Inv-loop μ-loop
 returns-2 c = sym (c .before .loop .inv .1 ∙ all-end _ _ _ (c .loop-test .left))

@@ -1,4 +1,5 @@
--- `data` meets its contract: a verdict that is not 0 refuses; a packet past nxt is stored; one at nxt lets out what the rule delivers.
+-- `data` meets its contract: a verdict that is not 0 refuses; a packet past nxt is stored; one at nxt lets out what the rule
+-- delivers, which is no more than the window has.
 use mathlib.Core.Path.{refl}
 use denote.Ref.{now}
 use Rattle.receiver.proofs.Cases.{fit-head, refuses, keeps, at-most, delivers}
@@ -10,7 +11,10 @@ verdict-requires : tie.Need-verdict-requires
 verdict-requires c κs = (fit-head refl (c .before .pre .0), c .before .pre .1)
 
 returns : tie.Need-returns
-returns c = refuses (c .before .before .before .args .h) (c .before .before .before .args .p) (now (c .before .before .before .args .slots)) (now (c .before .before .before .args .row)) (c .before .verdict .ensures) (c .if1 .taken)
+returns c =
+    let start = c .before .before .before in
+    let a = start .args in
+    refuses (a .h) (a .p) (now (a .slots)) (now (a .row)) (c .before .verdict .ensures) (c .if1 .taken)
 
 slot-requires : tie.Need-slot-requires
 slot-requires c κs = search needs
@@ -28,19 +32,42 @@ with-mark-requires : tie.Need-with-mark-requires
 with-mark-requires c κs = search needs
 
 returns-2 : tie.Need-returns-2
-returns-2 c = keeps (c .before .before .before .before .before .before .before .before .args .h) (c .before .before .before .before .before .before .before .before .args .p) (now (c .before .before .before .before .before .before .before .before .args .slots)) (now (c .before .before .before .before .before .before .before .before .args .row)) (c .before .before .before .before .before .before .verdict .ensures) (c .before .before .before .before .before .if1 .left) (c .before .before .before .before .slot .ensures .0) (c .before .before .before .with-mark .ensures) (c .before .before .before .before .before .before .before .before .pre .0) (c .before .before .before .before .before .before .before .before .pre .1) (c .if2 .taken)
+returns-2 c =
+    let marked = c .before .before .before in
+    let passed = marked .before .before in
+    let start = passed .before .before .before in
+    let a = start .args in
+    keeps (a .h) (a .p) (now (a .slots)) (now (a .row)) (passed .before .verdict .ensures) (passed .if1 .left)
+    (marked .before .slot .ensures .0) (marked .with-mark .ensures) (start .pre .0) (start .pre .1) (c .if2 .taken)
 
 deliver-requires : tie.Need-deliver-requires
 deliver-requires c κs = search needs
 
 advanced-requires : tie.Need-advanced-requires
-advanced-requires c κs = at-most (c .before .before .before .before .before .before .before .before .before .before .before .before .before .args .h) (c .before .before .before .before .before .before .before .before .before .before .before .before .before .args .p) (now (c .before .before .before .before .before .before .before .before .before .before .before .before .before .args .slots)) (now (c .before .before .before .before .before .before .before .before .before .before .before .before .before .args .row)) (c .before .before .before .before .before .before .before .before .before .before .before .verdict .ensures) (c .before .before .before .before .before .before .before .before .before .before .if1 .left) (c .before .before .before .before .before .before .before .before .before .slot .ensures .0) (c .before .before .before .before .before .before .before .before .with-mark .ensures) (c .before .before .before .before .before .before .before .before .before .before .before .before .before .pre .0) (c .before .before .before .before .before .before .before .before .before .before .before .before .before .pre .1) (c .before .before .before .before .before .if2 .left) (c .before .before .deliver .ensures)
+advanced-requires c κs =
+    let delivered = c .before .before in
+    let next = delivered .before .before .before in
+    let marked = next .before .before .before in
+    let passed = marked .before .before in
+    let start = passed .before .before .before in
+    let a = start .args in
+    at-most (a .h) (a .p) (now (a .slots)) (now (a .row)) (passed .before .verdict .ensures) (passed .if1 .left)
+    (marked .before .slot .ensures .0) (marked .with-mark .ensures) (start .pre .0) (start .pre .1) (next .if2 .left) (delivered .deliver .ensures)
 
 same-length : tie.Need-same-length
 same-length c = search needs
 
 returns-3 : tie.Need-returns-3
-returns-3 c = rw (c .advanced .ensures) (delivers (c .before .before .before .before .before .before .before .before .before .before .before .before .before .before .args .h) (c .before .before .before .before .before .before .before .before .before .before .before .before .before .before .args .p) (now (c .before .before .before .before .before .before .before .before .before .before .before .before .before .before .args .slots)) (now (c .before .before .before .before .before .before .before .before .before .before .before .before .before .before .args .row)) (c .before .before .before .before .before .before .before .before .before .before .before .before .verdict .ensures) (c .before .before .before .before .before .before .before .before .before .before .before .if1 .left) (c .before .before .before .before .before .before .before .before .before .before .slot .ensures .0) (c .before .before .before .before .before .before .before .before .before .with-mark .ensures) (c .before .before .before .before .before .before .before .before .before .before .before .before .before .before .pre .0) (c .before .before .before .before .before .before .before .before .before .before .before .before .before .before .pre .1) (c .before .before .before .before .before .before .if2 .left) (c .before .before .before .deliver .ensures))
+returns-3 c =
+    let delivered = c .before .before .before in
+    let next = delivered .before .before .before in
+    let marked = next .before .before .before in
+    let passed = marked .before .before in
+    let start = passed .before .before .before in
+    let a = start .args in
+    rw (c .advanced .ensures)
+    (delivers (a .h) (a .p) (now (a .slots)) (now (a .row)) (passed .before .verdict .ensures) (passed .if1 .left)
+    (marked .before .slot .ensures .0) (marked .with-mark .ensures) (start .pre .0) (start .pre .1) (next .if2 .left) (delivered .deliver .ensures))
 
 pub data-spec : {M : Type 1} → statement M
 data-spec =

@@ -1,8 +1,8 @@
 -- `deliver` meets its contract: after k turns k units stand in the row, and the rule gives the rest from nxt on. A marked slot lies
 -- less than ring - k ahead, so each turn that goes on finds k below ring, and the measure is ring - k.
 use mathlib.Core.Path.{_≡_, ap, sym, _∙_}
-use mathlib.Core.Bool.{true, false}
-use Prim.Native.Nat.{ℕ, _-_, _%_, _<_}
+use mathlib.Core.Bool.{true}
+use Prim.Native.Nat.{_-_, _%_, _<_}
 use native.Mathlib.Omega.{arith}
 use borrow.Author.Tests.{not-true, not-false}
 use Rattle.rules.specs.Marks.{marked}
@@ -38,8 +38,11 @@ element-copy-out-row : tie.Need-element-copy-out-row Inv-loop μ-loop
 element-copy-out-row c = omega arith
 
 -- the slot at nxt is marked
-is-on : (c : tie.Else1 Inv-loop μ-loop) → marked (c .before .before .before .loop .marks) (c .before .before .before .loop .nxt % c .before .before .before .before .before .args .ring) ≡ true
-is-on c = ap (marked (c .before .before .before .loop .marks)) (sym (c .before .before .slot .ensures .0)) ∙ sym (c .before .is-marked .ensures) ∙ not-false _ (c .if1 .left)
+is-on : (c : tie.Else1 Inv-loop μ-loop)
+    → let turn = c .before .before .before in marked (turn .loop .marks) (turn .loop .nxt % turn .before .before .args .ring) ≡ true
+is-on c =
+    ap (marked (c .before .before .before .loop .marks)) (sym (c .before .before .slot .ensures .0))
+    ∙ sym (c .before .is-marked .ensures) ∙ not-false _ (c .if1 .left)
 
 -- so not all units are out
 more : (c : tie.Else1 Inv-loop μ-loop) → c .before .before .before .loop .k < c .before .before .before .before .before .args .ring
@@ -73,16 +76,15 @@ loop-again : tie.Need-loop-again Inv-loop μ-loop
 loop-again c =
     let pre = c .before .before .before .before .before .before .before .before .pre in
     rw (c .moved .ensures .0, c .before .without-mark .ensures, c .before .before .before .before .before .slot .ensures .0)
-    (goes-on (c .before .before .before .before .before .before .loop .inv) (omega arith) (omega arith) (pre .3) (pre .4) (is-on (c .before .before .before)))
+    (goes-on (c .before .before .before .before .before .before .loop .inv) (pre .0) (pre .1) (pre .3) (pre .4) (is-on (c .before .before .before)))
 
 same-length : tie.Need-same-length Inv-loop μ-loop
 same-length c = c .before .before .before .loop .inv .long
 
 returns : tie.Need-returns Inv-loop μ-loop
 returns c =
-    let pre = c .before .before .before .before .before .pre in
     let l = c .before .before .before .loop in
-    ends (l .inv) (omega arith) (omega arith) (pre .3) (pre .4)
+    ends (l .inv) (c .before .before .before .before .before .pre .4)
     (ap (marked (l .marks)) (sym (c .before .before .slot .ensures .0)) ∙ sym (c .before .is-marked .ensures) ∙ not-true _ (c .if1 .taken))
 
 pub deliver-spec : {M : Type 1} → statement M
