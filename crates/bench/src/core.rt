@@ -61,12 +61,12 @@ pub fn accept(b: Bench, unit: u64) -> BenchDone
     ensures { λ r. ⌜ r ≡ bench-done (act (wrapped (b .sender .setup)) (b .sender .setup) (accept unit) b) ⌝ }
 {
     let s = b.sender;
-    let o = sender::core::accept(s, unit);
-    let t = o.sender;
+    let accepting = sender::core::accept(s, unit);
+    let accepted = accepting.sender;
     let mut next = b;
-    next.sender = t;
+    next.sender = accepted;
     BenchDone {
-        answer: o.answer,
+        answer: accepting.answer,
         count: 0,
         bench: next,
     }
@@ -77,22 +77,22 @@ pub fn send(b: Bench, k: u64) -> BenchDone
     ensures { λ r. ⌜ r ≡ bench-done (act (wrapped (b .sender .setup)) (b .sender .setup) (send k) b) ⌝ }
 {
     let s = b.sender;
-    let m = sender::core::send(s, k);
-    if m.answer != 0 {
+    let sending = sender::core::send(s, k);
+    if sending.answer != 0 {
         return BenchDone {
-            answer: m.answer,
+            answer: sending.answer,
             count: 0,
             bench: b,
         };
     }
     let c = b.datas;
-    let p = m.packet;
-    let o = datas::core::add(c, p);
-    let d = o.channel;
+    let p = sending.packet;
+    let adding = datas::core::add(c, p);
+    let sent = adding.channel;
     let mut next = b;
-    next.datas = d;
+    next.datas = sent;
     BenchDone {
-        answer: o.answer,
+        answer: adding.answer,
         count: 0,
         bench: next,
     }
@@ -112,25 +112,25 @@ pub fn data(b: Bench, j: u64, row: &mut [u64]) -> BenchDone
         };
     }
     let c = b.datas;
-    let m = datas::core::take(c, j);
-    if m.answer != 0 {
+    let taking = datas::core::take(c, j);
+    if taking.answer != 0 {
         return BenchDone {
-            answer: m.answer,
+            answer: taking.answer,
             count: 0,
             bench: b,
         };
     }
     let r = b.receiver;
-    let p = m.packet;
-    let o = receiver::core::data(r, p, row);
-    let d = m.channel;
-    let t = o.receiver;
+    let p = taking.packet;
+    let arriving = receiver::core::data(r, p, row);
+    let taken = taking.channel;
+    let arrived = arriving.receiver;
     let mut next = b;
-    next.datas = d;
-    next.receiver = t;
+    next.datas = taken;
+    next.receiver = arrived;
     BenchDone {
-        answer: o.answer,
-        count: o.count,
+        answer: arriving.answer,
+        count: arriving.count,
         bench: next,
     }
 }
@@ -140,12 +140,12 @@ pub fn room(b: Bench) -> BenchDone
     ensures { λ r. ⌜ r ≡ bench-done (act (wrapped (b .sender .setup)) (b .sender .setup) room b) ⌝ }
 {
     let r = b.receiver;
-    let o = receiver::core::room(r);
-    let t = o.receiver;
+    let opening = receiver::core::room(r);
+    let opened = opening.receiver;
     let mut next = b;
-    next.receiver = t;
+    next.receiver = opened;
     BenchDone {
-        answer: o.answer,
+        answer: opening.answer,
         count: 0,
         bench: next,
     }
@@ -158,12 +158,12 @@ pub fn ack(b: Bench) -> BenchDone
     let r = b.receiver;
     let p = receiver::core::ack(r);
     let c = b.acks;
-    let o = acks::core::add(c, p);
-    let d = o.channel;
+    let adding = acks::core::add(c, p);
+    let acked = adding.channel;
     let mut next = b;
-    next.acks = d;
+    next.acks = acked;
     BenchDone {
-        answer: o.answer,
+        answer: adding.answer,
         count: 0,
         bench: next,
     }
@@ -174,24 +174,24 @@ pub fn hear(b: Bench, j: u64) -> BenchDone
     ensures { λ r. ⌜ r ≡ bench-done (act (wrapped (b .sender .setup)) (b .sender .setup) (hear j) b) ⌝ }
 {
     let c = b.acks;
-    let m = acks::core::take(c, j);
-    if m.answer != 0 {
+    let taking = acks::core::take(c, j);
+    if taking.answer != 0 {
         return BenchDone {
-            answer: m.answer,
+            answer: taking.answer,
             count: 0,
             bench: b,
         };
     }
     let s = b.sender;
-    let p = m.packet;
-    let o = sender::core::hear(s, p);
-    let d = m.channel;
-    let t = o.sender;
+    let p = taking.packet;
+    let hearing = sender::core::hear(s, p);
+    let taken = taking.channel;
+    let heard = hearing.sender;
     let mut next = b;
-    next.acks = d;
-    next.sender = t;
+    next.acks = taken;
+    next.sender = heard;
     BenchDone {
-        answer: o.answer,
+        answer: hearing.answer,
         count: 0,
         bench: next,
     }
@@ -202,12 +202,12 @@ pub fn dropd(b: Bench, j: u64) -> BenchDone
     ensures { λ r. ⌜ r ≡ bench-done (act (wrapped (b .sender .setup)) (b .sender .setup) (dropd j) b) ⌝ }
 {
     let c = b.datas;
-    let o = datas::core::drop(c, j);
-    let d = o.channel;
+    let dropping = datas::core::drop(c, j);
+    let dropped = dropping.channel;
     let mut next = b;
-    next.datas = d;
+    next.datas = dropped;
     BenchDone {
-        answer: o.answer,
+        answer: dropping.answer,
         count: 0,
         bench: next,
     }
@@ -218,12 +218,12 @@ pub fn dropa(b: Bench, j: u64) -> BenchDone
     ensures { λ r. ⌜ r ≡ bench-done (act (wrapped (b .sender .setup)) (b .sender .setup) (dropa j) b) ⌝ }
 {
     let c = b.acks;
-    let o = acks::core::drop(c, j);
-    let d = o.channel;
+    let dropping = acks::core::drop(c, j);
+    let dropped = dropping.channel;
     let mut next = b;
-    next.acks = d;
+    next.acks = dropped;
     BenchDone {
-        answer: o.answer,
+        answer: dropping.answer,
         count: 0,
         bench: next,
     }
@@ -234,12 +234,12 @@ pub fn dupd(b: Bench, j: u64) -> BenchDone
     ensures { λ r. ⌜ r ≡ bench-done (act (wrapped (b .sender .setup)) (b .sender .setup) (dupd j) b) ⌝ }
 {
     let c = b.datas;
-    let o = datas::core::duplicate(c, j);
-    let d = o.channel;
+    let copying = datas::core::duplicate(c, j);
+    let copied = copying.channel;
     let mut next = b;
-    next.datas = d;
+    next.datas = copied;
     BenchDone {
-        answer: o.answer,
+        answer: copying.answer,
         count: 0,
         bench: next,
     }
@@ -250,12 +250,12 @@ pub fn dupa(b: Bench, j: u64) -> BenchDone
     ensures { λ r. ⌜ r ≡ bench-done (act (wrapped (b .sender .setup)) (b .sender .setup) (dupa j) b) ⌝ }
 {
     let c = b.acks;
-    let o = acks::core::duplicate(c, j);
-    let d = o.channel;
+    let copying = acks::core::duplicate(c, j);
+    let copied = copying.channel;
     let mut next = b;
-    next.acks = d;
+    next.acks = copied;
     BenchDone {
-        answer: o.answer,
+        answer: copying.answer,
         count: 0,
         bench: next,
     }
