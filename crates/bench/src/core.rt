@@ -3,10 +3,8 @@
 ghost use mathlib.Core.Path.{_≡_};
 ghost use lib.ListN.{length};
 ghost use Rattle.rules.specs.Numbers.{wrapped};
-ghost use Rattle.rules.specs.Setups.{_also_, same-setup};
 ghost use Rattle.rules.specs.Rows.{laid};
-ghost use Rattle.rules.specs.Parts.{fresh-bench, data-channel, ack-channel};
-ghost use Rattle.rules.specs.Malformed.{formed-sender, formed-receiver, formed-data, formed-ack, formed-channel};
+ghost use Rattle.rules.specs.Parts.{fresh-bench};
 ghost use Rattle.rules.specs.Fit.{FitSetup, FitBench};
 ghost use Rattle.rules.specs.Events.{accept, send, arrive, room, acknowledge, hear, dropd, dropa, dupd, dupa, tick, act};
 ghost use Rattle.rules.specs.Operations.{bench-done};

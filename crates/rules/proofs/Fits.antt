@@ -1,13 +1,13 @@
 -- From a test that was passed to the facts that the work needs: an admitted setup, and a state that is not malformed.
 use mathlib.Core.Path.{_≡_, refl, sym, _∙_, ap, ap₂, subst}
-use mathlib.Core.Bool.{Bool, true, false, cond, not, _||_}
+use mathlib.Core.Bool.{Bool, true, false, cond}
 use mathlib.Core.List.{List, [], _∷_, _++_}
-use Prim.Native.Nat.{ℕ, zero, suc, _+_, _-_, _*_, _%_, _^_, _≤_, _<_, _/_, _∣_}
+use Prim.Native.Nat.{ℕ, _+_, _-_, _*_, _%_, _^_, _≤_, _<_, _∣_}
 use native.Mathlib.Nat.{dvd-mul-right}
 use native.Mathlib.Decide.{decLe}
 use native.Mathlib.Omega.{arith}
-use lib.Dec.{leb, eqb}
-use lib.ListN.{length, take, drop, replicate, length-take, length-drop, take-append-drop}
+use lib.Dec.{eqb}
+use lib.ListN.{length, drop, replicate, length-take, length-drop, take-append-drop}
 use lib.Pow.{pow-pos, pow-add, pow-mono}
 use borrow.Author.Tests.{leb-true, ltb-true, eqb-true}
 use Rattle.rules.specs.declared.Setup.{Setup}
@@ -22,12 +22,11 @@ use Rattle.rules.specs.declared.DataChannel.{DataChannel}
 use Rattle.rules.specs.declared.AckChannel.{AckChannel}
 use Rattle.rules.specs.declared.Bench.{Bench}
 use Rattle.rules.specs.Numbers.{NS, NC, wrapped}
-use Rattle.rules.specs.Setups.{_also_, is-window, in-limits, in-ranges, admitted, same-setup}
-use Rattle.rules.specs.Marks.{marked}
+use Rattle.rules.specs.Setups.{is-window, in-limits, in-ranges, admitted, same-setup}
 use Rattle.rules.specs.Rows.{row}
 use Rattle.rules.specs.Parts.{no-data, no-ack, new-data, new-ack, is-no-data, is-no-ack, Channel, live, data-channel, ack-channel}
-use Rattle.rules.specs.Malformed.{all-from, every, formed-recent, formed-sender, formed-receiver, right-data, right-ack, formed-data, formed-ack, formed-channel, malformed-sender, malformed-receiver, formed-bench, malformed-bench}
-use Rattle.rules.specs.Fit.{FitSetup, FitRecent, FitSender, Within, FitReceiver, FitData, FitAck, FitChannel, FitBench}
+use Rattle.rules.specs.Malformed.{every, formed-recent, formed-sender, formed-receiver, right-data, right-ack, formed-data, formed-ack, formed-channel, malformed-sender, malformed-receiver, formed-bench, malformed-bench}
+use Rattle.rules.specs.Fit.{FitSetup, FitRecent, FitSender, FitReceiver, FitData, FitAck, FitChannel, FitBench}
 use Rattle.rules.proofs.Tests.{both, _and_, or-case, passes}
 use Rattle.rules.proofs.Loops.{all-at}
 use Rattle.rules.proofs.Deliveries.{same-slots}

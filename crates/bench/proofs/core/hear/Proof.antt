@@ -1,8 +1,7 @@
 -- `hear` meets its contract: the packet is taken out of the channel, and the event is the sender's.
-use mathlib.Core.Path.{_≡_, _∙_, ap, sym, subst}
+use mathlib.Core.Path.{_≡_, ap, sym, subst}
 use borrow.Author.Tests.{leb-false}
 use Rattle.rules.specs.declared.AckChannelTaken.{AckChannelTaken}
-use Rattle.rules.specs.declared.BareAck.{BareAck}
 use Rattle.rules.specs.Parts.{ack-channel, bare-ack}
 use Rattle.rules.specs.Fit.{FitAck}
 use Rattle.rules.specs.Events.{packet-at, act}

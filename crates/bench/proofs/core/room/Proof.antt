@@ -1,7 +1,6 @@
 -- `room` meets its contract: the event is the receiver's, which has the bench's setup.
 use mathlib.Core.Path.{_≡_, _∙_, ap}
 use Rattle.rules.specs.declared.Setup.{Setup}
-use Rattle.rules.specs.declared.ReceiverDone.{ReceiverDone}
 use Rattle.rules.specs.Events.{opening, act}
 use Rattle.rules.specs.Operations.{receiver-done}
 use Rattle.rules.proofs.Benches.{opening-quiet}

@@ -1,6 +1,5 @@
 -- `send` meets its contract: the sender's packet, where there is one, is added to the channel.
-use mathlib.Core.Path.{_≡_, _∙_, ap}
-use mathlib.Core.Bool.{false}
+use mathlib.Core.Path.{ap}
 use Rattle.rules.specs.declared.SenderSent.{SenderSent}
 use Rattle.rules.specs.Numbers.{wrapped}
 use Rattle.rules.specs.Events.{act}
