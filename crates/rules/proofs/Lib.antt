@@ -13,3 +13,4 @@ pub mod Session
 pub mod Examples
 pub mod Tight
 pub mod Agreement
+pub mod Reached

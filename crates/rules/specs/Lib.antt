@@ -12,3 +12,4 @@ pub mod One
 pub mod Runs
 pub mod Examples
 pub mod Agreement
+pub mod Reached

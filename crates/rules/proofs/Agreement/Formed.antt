@@ -146,7 +146,7 @@ module _ (S : Setup) (adm : admitted S ≡ true) (v : Wide S) where
     unfolding malformed-bench
     formed-whole = ap not (ap (λ (x : Setup). admitted x also formed-bench whole x b) (i .setups .sender) ∙ (adm and bench-whole))
 
-    formed-wrapped : malformed-bench wrapped (wrap S b) ≡ false
+    pub formed-wrapped : malformed-bench wrapped (wrap S b) ≡ false
     unfolding malformed-bench
     formed-wrapped =
         ap not (ap (λ (x : Setup). admitted x also formed-bench wrapped x (wrap S b)) (i .setups .sender) ∙ (adm and bench-wrapped))

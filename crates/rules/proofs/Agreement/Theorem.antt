@@ -1,6 +1,6 @@
 -- The theorem of agreement: the invariant holds of the fresh bench, so every run from it is as the statement says.
-use mathlib.Core.Path.{_≡_, refl, sym, _∙_, ap}
-use mathlib.Core.Bool.{true, not}
+use mathlib.Core.Path.{_≡_, refl, sym, _∙_, ap, subst}
+use mathlib.Core.Bool.{true, false, not}
 use mathlib.Core.List.{List, []}
 use Prim.Native.Nat.{ℕ, zero, suc, _+_, _%_}
 use native.Mathlib.Nat.{zero-mod, mod-eq-of-lt, add-zero}
@@ -9,17 +9,23 @@ use lib.ListN.{length, getD, take, replicate}
 use borrow.Author.Tests.{ne-eqb}
 use Rattle.rules.specs.declared.Setup.{Setup}
 use Rattle.rules.specs.Numbers.{wrapped, whole, NC}
-use Rattle.rules.specs.Parts.{fresh-bench, fresh-data-channel, fresh-ack-channel}
+use Rattle.rules.specs.Setups.{admitted}
+use Rattle.rules.specs.Parts.{data-channel, ack-channel, fresh-bench, fresh-data-channel, fresh-ack-channel}
+use Rattle.rules.specs.Malformed.{malformed-bench}
+use Rattle.rules.specs.Fit.{FitBench}
+use Rattle.rules.specs.Events.{Event}
 use Rattle.rules.specs.Runs.{Said, run, final, accepted, delivered}
 use Rattle.rules.specs.Agreement.{wrap, proper, Agreement}
 use Rattle.rules.proofs.Tests.{_and_}
 use Rattle.rules.proofs.Marks.{unmarked-zero, clash}
-use Rattle.rules.proofs.Fits.{Limits, limits}
+use Rattle.rules.proofs.Fits.{Limits, limits, fit-bench}
+use Rattle.rules.proofs.Channels.{length-packets}
 use Rattle.rules.proofs.Agreement.Lists.{done, all-imply, every-is}
 use Rattle.rules.proofs.Agreement.Way.{gone}
 use Rattle.rules.proofs.Agreement.Ring.{Idle}
-use Rattle.rules.proofs.Agreement.Channels.{Proper, shows-datas, shows-acks, holds-fill}
+use Rattle.rules.proofs.Agreement.Channels.{Proper, shows-datas, shows-acks, holds-fill, fit-shown}
 use Rattle.rules.proofs.Agreement.State.{Wide, wide, Inv, stretch}
+use Rattle.rules.proofs.Agreement.Formed.{formed-wrapped}
 use Rattle.rules.proofs.Agreement.Runs.{take-stretch, log-of, log-of-stretch, Ran, ran}
 
 -- ---- fresh
@@ -66,42 +72,65 @@ fresh-wrap S a =
       ← shows-acks S .fill (fresh-ack-channel S) [],
     )
 
+-- ---- a run from fresh
+-- the units that it accepts, by their numbers, from the starting number on
+units-of : Setup → List Event → List ℕ
+units-of S es = accepted es (run whole es (fresh-bench S))
+
+log-from : Setup → List Event → ℕ → ℕ
+log-from S es = log-of (units-of S es) (S .seq)
+
+units-stretch : (S : Setup) (es : List Event) → units-of S es ≡ stretch (log-from S es) (S .seq) (length (units-of S es))
+unfolding log-from
+units-stretch S es = log-of-stretch (units-of S es) (S .seq)
+
+abbrev FreshRan : (S : Setup) → admitted S ≡ true → List Event → Type 0
+FreshRan S adm es = Ran S adm (wide (limits S adm)) (log-from S es) es (fresh-bench S)
+
+fresh-ran : (S : Setup) (adm : admitted S ≡ true) (es : List Event) → FreshRan S adm es
+unfolding units-of
+fresh-ran S adm es =
+    let v = wide (limits S adm) in
+    ran S adm v (log-from S es) es (fresh-bench S) (fresh-inv S v (log-from S es)) (rw (add-zero (S .seq)) (units-stretch S es))
+
+fresh-last : (S : Setup) (adm : admitted S ≡ true) (es : List Event) → final wrapped es (fresh-bench S) ≡ wrap S (final whole es (fresh-bench S))
+fresh-last S adm es = sym (ap (final wrapped es) (fresh-wrap S (limits S adm))) ∙ fresh-ran S adm es .last
+
+-- no state of it is malformed, and its channels are as they should be
+pub fresh-formed : (S : Setup) → admitted S ≡ true → (es : List Event) → malformed-bench wrapped (final wrapped es (fresh-bench S)) ≡ false
+fresh-formed S adm es = rw (fresh-last S adm es) (formed-wrapped S adm (wide (limits S adm)) (fresh-ran S adm es .kept))
+
+pub fresh-fit : (S : Setup) → admitted S ≡ true → (es : List Event) → FitBench (final wrapped es (fresh-bench S))
+fresh-fit S adm es =
+    let i = fresh-ran S adm es .kept in
+    let b = final whole es (fresh-bench S) in
+    subst FitBench (sym (fresh-last S adm es))
+    (fit-bench (wrap S b)
+    (length-packets data-channel _ (fit-shown (shows-datas S) (i .datas .fit)))
+    (length-packets ack-channel _ (fit-shown (shows-acks S) (i .acks .fit)))
+    (formed-wrapped S adm (wide (limits S adm)) i))
+
 -- ---- the theorem
 is-proper : (a : Said) → Proper (a .answer) → proper a ≡ true
 unfolding proper
 is-proper a q = ap not (ne-eqb _ 2 (q .formed)) and ap not (ne-eqb _ 11 (q .near))
 
 pub agreement : Agreement
+unfolding units-of
 agreement S adm es = record {
   answers = same;
-  state = sym (ap (final wrapped es) fresh) ∙ r .last;
-  prefix = rw same (r .gave .list ∙ sym (ap (take n) said-by-log ∙ take-stretch log (S .seq) n (length units)
+  state = fresh-last S adm es;
+  prefix = rw same (r .gave .list ∙ sym (ap (take n) (units-stretch S es) ∙ take-stretch (log-from S es) (S .seq) n (length (units-of S es))
       (omega (arith, r .gave .moved, r .grew, r .kept .nums .nxt-end))));
   order = omega (arith, r .kept .nums);
   never = rw same (every-is proper (all-imply is-proper (r .proper)));
 }
   where
-    -- the units that the run accepts, from the starting number on
-    units : List ℕ
-    units = accepted es (run whole es (fresh-bench S))
-
-    log : ℕ → ℕ
-    log = log-of units (S .seq)
-
-    said-by-log : units ≡ stretch log (S .seq) (length units)
-    said-by-log = log-of-stretch units (S .seq)
+    r : FreshRan S adm es
+    r = fresh-ran S adm es
 
     n : ℕ
     n = length (delivered (run whole es (fresh-bench S)))
 
-    v : Wide S
-    v = wide (limits S adm)
-
-    r : Ran S adm v log es (fresh-bench S)
-    r = ran S adm v log es (fresh-bench S) (fresh-inv S v log) (rw (add-zero (S .seq)) said-by-log)
-
-    fresh : wrap S (fresh-bench S) ≡ fresh-bench S
-    fresh = fresh-wrap S (limits S adm)
-
     same : run wrapped es (fresh-bench S) ≡ run whole es (fresh-bench S)
-    same = sym (ap (run wrapped es) fresh) ∙ r .same
+    same = sym (ap (run wrapped es) (fresh-wrap S (limits S adm))) ∙ r .same
