@@ -1,0 +1,4 @@
+pub mod Draw
+pub mod Tally
+pub mod Run
+pub mod One
