@@ -1,37 +1,12 @@
-//! An independent second program for the bench of document 01.
-//!
-//! It makes listings of scripts by the rules on wrapped numbers or on whole
-//! ones, makes random scripts, and compares: the two kinds of number with each
-//! other, another program with itself, and itself with planted slips.
-//!
-//! To read it beside document 01: `setup`, then `channel`, `recent`, `sender`,
-//! `receiver` and `bench` are the rules; `numbers` is all in which the two
-//! kinds of number differ; `malformed` is the test of damaged states; `script`
-//! and `listing` are the script program.
+//! The commands of the second program: listings of scripts by the rules on
+//! wrapped numbers or on whole ones, random scripts, and comparisons: the two
+//! kinds of number with each other, another program with this one, and this
+//! one with planted slips. The rules and all else are in the library.
 
-mod agree;
-mod answers;
-mod bench;
-mod channel;
-mod compare;
-mod listing;
-mod makers;
-mod malformed;
-mod numbers;
-mod random;
-mod receiver;
-mod recent;
-mod script;
-mod sender;
-mod setup;
-mod slips;
-
-#[cfg(test)]
-mod tests;
-
-use compare::Comparison;
-use makers::Kind;
-use numbers::{Whole, Wrapped};
+use second::compare::Comparison;
+use second::makers::{self, Kind};
+use second::numbers::{Whole, Wrapped};
+use second::{agree, listing, script, slips};
 use std::io::{self, Read, Write};
 use std::process::ExitCode;
 

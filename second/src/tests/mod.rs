@@ -10,6 +10,7 @@ mod refusals_alone;
 mod refusals_on_bench;
 mod session;
 mod slips_that_look_right;
+mod soaking;
 
 use crate::listing::listing;
 use crate::numbers::Wrapped;
