@@ -1,0 +1,4 @@
+pub mod Text
+pub mod Cuts
+pub mod Values
+pub mod Lines
