@@ -3,7 +3,7 @@ use mathlib.Core.Path.{_≡_, refl, sym, _∙_, ap, ap₂, subst}
 use mathlib.Core.Bool.{Bool, true, false, cond, not, _||_}
 use mathlib.Core.List.{List, [], _∷_, _++_}
 use Prim.Native.Nat.{ℕ, zero, suc, _+_, _-_, _*_, _%_, _^_, _≤_, _<_, _/_, _∣_}
-use native.Mathlib.Nat.{dvd-mul-right, mod-add-mod, mod-mod-of-dvd}
+use native.Mathlib.Nat.{dvd-mul-right}
 use native.Mathlib.Decide.{decLe}
 use native.Mathlib.Omega.{arith}
 use lib.Dec.{leb, eqb}
@@ -32,6 +32,7 @@ use Rattle.rules.specs.Fit.{FitSetup, FitRecent, FitSender, Within, FitR
 use Rattle.rules.proofs.Tests.{both, _and_, or-case, passes}
 use Rattle.rules.proofs.Loops.{all-at}
 use Rattle.rules.proofs.Rows.{length-row}
+use Rattle.rules.proofs.Deliveries.{same-slots}
 
 -- ---- an admitted setup
 -- a window is a power of two, of at most 64
@@ -85,8 +86,8 @@ limits S e =
       seq-in = ltb-true _ _ (k .0);
       sclock-in = ltb-true _ _ (k .1);
       rclock-in = ltb-true _ _ (h .1);
-      room-seq = leb-true _ _ (g .1);
-      room-clock = leb-true _ _ (f .1);
+      room-seq = omega (arith, leb-true, g .1);
+      room-clock = omega (arith, leb-true, f .1);
     }
 
 pow-divides : {i j : ℕ} → i ≤ j → 2 ^ i ∣ 2 ^ j
@@ -108,9 +109,7 @@ fit-setup {S} a = record
 
 -- a number and the same number round NS have the same slots ahead
 pub turn : {S : Setup} → FitSetup S → (x d : ℕ) → (x % NS S + d) % S .window ≡ (x + d) % S .window
-turn {S} f x d =
-    sym (mod-add-mod (x % NS S) (S .window) d)
-    ∙ ap (λ (y : ℕ). (y + d) % S .window) (mod-mod-of-dvd (S .window) x (f .even)) ∙ mod-add-mod x (S .window) d
+turn {S} f = same-slots (S .window) (NS S) (f .even)
 
 -- the same eight numbers are the same setup
 pub same-is : (S T : Setup) → same-setup S T ≡ true → S ≡ T
@@ -245,7 +244,7 @@ fit-bench b nd na e =
     record {
       sender = formed-is-fit-sender (b .sender) f (snd .1);
       receiver = formed-is-fit-receiver (b .receiver) (subst FitSetup er f)
-        (subst (λ (T : Setup). formed-receiver (wrapped T) T (b .receiver) ≡ true) er (rcv .1));
+          (subst (λ (T : Setup). formed-receiver (wrapped T) T (b .receiver) ≡ true) er (rcv .1));
       datas = fit-datas _ (b .datas) nd (datas .1);
       acks = fit-acks _ (b .acks) na (acks .1);
       same-receiver = sym er;

@@ -3,5 +3,12 @@ pub mod Loops
 pub mod Rows
 pub mod Wrap
 pub mod Marks
+pub mod Deliveries
 pub mod Fits
+pub mod Channels
+pub mod Turns
+pub mod Ends
 pub mod Session
+pub mod Examples
+pub mod Tight
+pub mod Agreement

@@ -4,9 +4,11 @@ pub mod Marks
 pub mod Rows
 pub mod Parts
 pub mod Malformed
+pub mod Places
 pub mod Fit
 pub mod Events
 pub mod Operations
+pub mod One
 pub mod Runs
 pub mod Examples
-pub mod One
+pub mod Agreement
