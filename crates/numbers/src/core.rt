@@ -1,6 +1,6 @@
 // A range of 2 to the power `bits` values, with bits at most 32, and a ring of at most 64 slots.
 ghost use mathlib.Core.Path.{_≡_};
-ghost use Prim.Native.Nat.{ℕ, _+_, _%_, _^_, _<_, _≤_};
+ghost use Prim.Native.Nat.{_+_, _%_, _^_, _<_, _≤_};
 ghost use Rattle.rules.specs.Numbers.{dist};
 ghost use lib.Dec.{ltb};
 

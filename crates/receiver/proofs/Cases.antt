@@ -3,19 +3,20 @@
 use mathlib.Core.Path.{_≡_, refl, sym, _∙_}
 use mathlib.Core.Bool.{Bool, true, false, cond}
 use mathlib.Core.List.{List, []}
-use Prim.Native.Nat.{ℕ, _%_, _≤_, _<_}
+use Prim.Native.Nat.{ℕ, _+_, _%_, _≤_, _<_}
 use native.Mathlib.Decide.{decLt}
+use native.Mathlib.Numerals.{add-one}
 use native.Mathlib.Omega.{arith}
 use lib.Dec.{leb}
 use lib.ListN.{set}
 use borrow.Author.Tests.{lt-ltb, le-ltb, le-leb, lt-leb, ne-eqb}
 use Rattle.rules.specs.declared.Receiver.{Receiver}
 use Rattle.rules.specs.declared.BareData.{BareData}
-use Rattle.rules.specs.Numbers.{NS, dist, wrapped}
+use Rattle.rules.specs.Numbers.{NS, NC, dist, wrapped}
 use Rattle.rules.specs.Marks.{marked, mark}
 use Rattle.rules.specs.Rows.{laid}
 use Rattle.rules.specs.Fit.{Within, FitReceiver, FitData}
-use Rattle.rules.specs.Events.{Out, Delivery, refused, done, passed, may-arrive, deliver, advanced, stored, arriving, opened, opening}
+use Rattle.rules.specs.Events.{Out, Delivery, refused, done, passed, older, may-arrive, deliver, advanced, stored, arriving, opened, opening, ticked-receiver}
 use Rattle.rules.specs.Operations.{receiver-done, receiver-took}
 use Rattle.rules.proofs.Deliveries.{within-here, few, dist-same, dist-other}
 use Rattle.receiver.specs.declared.core.ReceiverHead.{ReceiverHead}
@@ -52,6 +53,31 @@ pub arriving-whole : (r : Receiver) {h : ReceiverHead} (p : BareData) {x : HeadT
     → (record { answer = x .answer; count = x .count; receiver = receiver-of (x .head) sl } ≡ receiver-took (arriving (wrapped (r .setup)) (r .setup) p r))
     × (out ≡ laid (arriving (wrapped (r .setup)) (r .setup) p r .units) row)
 arriving-whole r p e l = let m = rw e at l in (rw (m .gives, m .slots), m .lent)
+
+-- ---- room and tick
+module _ (h : ReceiverHead) where
+  pub full : h .setup .window ≤ h .window → record { answer = 13; head = h } ≡ head-done (opening (h .setup) (receiver-of h []))
+  full l = rw (le-leb _ _ l)
+
+  pub opens : h .window < h .setup .window
+      → record {
+        answer = 0;
+        head = record
+            { setup = h .setup; nxt = h .nxt; window = h .window + 1; clock = h .clock; recent = h .recent; marks = h .marks };
+      }
+      ≡ head-done (opening (h .setup) (receiver-of h []))
+  opens l = rw (lt-leb _ _ l, add-one)
+
+  pub ticks : record {
+    setup = h .setup;
+    nxt = h .nxt;
+    window = h .window;
+    clock = (h .clock + 1) % NC (h .setup);
+    recent = older (h .setup .life) (h .recent);
+    marks = h .marks;
+  }
+      ≡ head-of (ticked-receiver (wrapped (h .setup)) (h .setup) (receiver-of h []))
+  ticks = rw add-one
 
 -- ---- data arriving
 module _ (h : ReceiverHead) (p : BareData) where

@@ -1,10 +1,10 @@
 -- Deliveries: the marks that a turn leaves lie within a window that is one less, so no more units come out than the window has.
--- And the difference of two numbers round the range: when it is 0, and that it leads from the one's slot to the other's.
+-- And the difference of two numbers round the range: when it is 0.
 use mathlib.Core.Path.{_≡_, refl, sym, _∙_, ap}
 use mathlib.Core.Bool.{Bool, true, false, cond}
 use mathlib.Core.List.{List}
 use Prim.Native.Nat.{ℕ, zero, suc, _+_, _-_, _%_, _≤_, _<_, _∣_}
-use native.Mathlib.Nat.{mod-add-mod, mod-mod-of-dvd, mod-eq-of-lt, add-mod-right, add-zero}
+use native.Mathlib.Nat.{mod-add-mod, mod-mod-of-dvd, mod-eq-of-lt, add-zero}
 use native.Mathlib.Decide.{decLe}
 use native.Mathlib.Omega.{arith}
 use lib.ListN.{length, getD, set}
@@ -68,12 +68,3 @@ dist-other N a b la lb ne e = by (decLe b a)
     by : Dec (b ≤ a) → ⊥
     by (yes h) = ne (omega (arith, dist-in N a b la lb, dist-ahead N a b h (omega arith)))
     by (no h) = omega (arith, dist-in N a b la lb, dist-behind N a b (omega arith) (omega arith))
-
--- as far ahead of b's slot stands a's
-pub dist-slot : (R N : ℕ) → R ∣ N → (a b : ℕ) → b < N → (b + dist N a b) % R ≡ a % R
-unfolding dist
-dist-slot R N even a b lb =
-    let back : b + (a + (N - b)) % N ≡ (a + (N - b)) % N + b = omega arith in
-    let lap : a + (N - b) + b ≡ a + N = omega arith in
-    let round : (x : ℕ) → x % N % R ≡ x % R = λ x. mod-mod-of-dvd R x even in
-    ap (_% R) back ∙ same-slots R N even (a + (N - b)) b ∙ ap (_% R) lap ∙ sym (round (a + N)) ∙ ap (_% R) (add-mod-right a N) ∙ round a

@@ -1,13 +1,13 @@
 -- From a test that was passed to the facts that the work needs: an admitted setup, and a state that is not malformed.
 use mathlib.Core.Path.{_≡_, refl, sym, _∙_, ap, ap₂, subst}
-use mathlib.Core.Bool.{Bool, true, false, cond, not, _||_}
+use mathlib.Core.Bool.{Bool, true, false, cond}
 use mathlib.Core.List.{List, [], _∷_, _++_}
-use Prim.Native.Nat.{ℕ, zero, suc, _+_, _-_, _*_, _%_, _^_, _≤_, _<_, _/_, _∣_}
+use Prim.Native.Nat.{ℕ, _+_, _-_, _*_, _%_, _^_, _≤_, _<_, _∣_}
 use native.Mathlib.Nat.{dvd-mul-right}
 use native.Mathlib.Decide.{decLe}
 use native.Mathlib.Omega.{arith}
-use lib.Dec.{leb, eqb}
-use lib.ListN.{length, getD, take, drop, replicate, length-take, length-drop, take-append-drop}
+use lib.Dec.{eqb}
+use lib.ListN.{length, drop, replicate, length-take, length-drop, take-append-drop}
 use lib.Pow.{pow-pos, pow-add, pow-mono}
 use borrow.Author.Tests.{leb-true, ltb-true, eqb-true}
 use Rattle.rules.specs.declared.Setup.{Setup}
@@ -22,16 +22,13 @@ use Rattle.rules.specs.declared.DataChannel.{DataChannel}
 use Rattle.rules.specs.declared.AckChannel.{AckChannel}
 use Rattle.rules.specs.declared.Bench.{Bench}
 use Rattle.rules.specs.Numbers.{NS, NC, wrapped}
-use Rattle.rules.specs.Setups.{_also_, is-window, in-limits, in-ranges, admitted, same-setup}
-use Rattle.rules.specs.Marks.{marked}
+use Rattle.rules.specs.Setups.{is-window, in-limits, in-ranges, admitted, same-setup}
 use Rattle.rules.specs.Rows.{row}
-use Rattle.rules.specs.Parts.{no-data, no-ack, new-data, new-ack, bare-data, bare-ack, is-no-data, is-no-ack, Channel, live, data-channel, ack-channel}
-use Rattle.rules.specs.Malformed.{all-from, every, formed-recent, formed-sender, formed-receiver, right-data, right-ack, formed-data, formed-ack, formed-channel, malformed-sender, malformed-receiver, formed-bench, malformed-bench}
-use Rattle.rules.specs.Events.{packet-at}
-use Rattle.rules.specs.Fit.{FitSetup, FitRecent, FitSender, Within, FitReceiver, FitData, FitAck, FitChannel, FitBench}
+use Rattle.rules.specs.Parts.{no-data, no-ack, new-data, new-ack, is-no-data, is-no-ack, Channel, live, data-channel, ack-channel}
+use Rattle.rules.specs.Malformed.{every, formed-recent, formed-sender, formed-receiver, right-data, right-ack, formed-data, formed-ack, formed-channel, malformed-sender, malformed-receiver, formed-bench, malformed-bench}
+use Rattle.rules.specs.Fit.{FitSetup, FitRecent, FitSender, FitReceiver, FitData, FitAck, FitChannel, FitBench}
 use Rattle.rules.proofs.Tests.{both, _and_, or-case, passes}
 use Rattle.rules.proofs.Loops.{all-at}
-use Rattle.rules.proofs.Rows.{length-row}
 use Rattle.rules.proofs.Deliveries.{same-slots}
 
 -- ---- an admitted setup
@@ -253,24 +250,3 @@ fit-bench b nd na e =
       right-datas = every-so _ _ (λ p h. both h .0) _ (channel-right data-channel _ (b .datas) (datas .1));
       right-acks = every-so _ _ (λ p h. both h .0) _ (channel-right ack-channel _ (b .acks) (acks .1));
     }
-
--- each packet that a channel holds is in range
-every-at : {A : Type 0} (f : A → Bool) (z : A) (l : List A) (j : ℕ) → every f l ≡ true → j < length l → f (getD l j z) ≡ true
-unfolding every
-every-at f z [] j e lt = absurd (omega arith)
-every-at f z (x ∷ l) zero e lt = both e .0
-every-at f z (x ∷ l) (suc j) e lt = every-at f z l j (both e .1) (omega arith)
-
-full : {H P C : Type 0} (K : Channel H P C) (c : C) → FitChannel K c → length (live K c) ≡ K .count c
-full K c f =
-    let l = length-take (K .count c) (K .packets c) in
-    let n : length (K .packets c) ≡ 32 = ap length (f .rest) ∙ length-row (K .new (K .nothing)) (live K c) (omega (arith, l, f .few)) in
-    omega (arith, l, n, f .few)
-
-pub data-at : {b : Bench} → FitBench b → (j : ℕ) → j < b .datas .count → FitData (b .sender .setup) (bare-data (packet-at data-channel j (b .datas)))
-data-at {b} f j lt =
-    fit-data (b .sender .setup) _ (every-at _ (new-data no-data) (live data-channel (b .datas)) j (f .right-datas) (omega (arith, full data-channel (b .datas) (f .datas))))
-
-pub ack-at : {b : Bench} → FitBench b → (j : ℕ) → j < b .acks .count → FitAck (b .sender .setup) (bare-ack (packet-at ack-channel j (b .acks)))
-ack-at {b} f j lt =
-    fit-ack (b .sender .setup) _ (every-at _ (new-ack no-ack) (live ack-channel (b .acks)) j (f .right-acks) (omega (arith, full ack-channel (b .acks) (f .acks))))

@@ -7,6 +7,7 @@ pub mod Deliveries
 pub mod Fits
 pub mod Channels
 pub mod Turns
+pub mod Benches
 pub mod Ends
 pub mod Session
 pub mod Examples

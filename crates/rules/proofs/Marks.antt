@@ -3,13 +3,12 @@ use mathlib.Core.Path.{_≡_, refl, sym, _∙_, ap}
 use mathlib.Core.Bool.{Bool, true, false}
 use mathlib.Core.Logic.{_≢_}
 use Prim.Native.Nat.{ℕ, zero, suc, _+_, _-_, _*_, _/_, _%_, _^_, _≤_, _<_, min, max}
-use native.Mathlib.Nat.{mod-add-mod, mod-eq-of-lt, add-mod-right, add-mul-mod-self-right, add-zero, div-add-mod', div-one, mod-lt}
+use native.Mathlib.Nat.{add-mod-right, add-zero, div-one, mod-lt}
 use native.Mathlib.Decide.{ℕ-discrete, decLt}
 use native.Mathlib.Omega.{arith}
 use native.Mathlib.Numerals.{one-add}
 use lib.Pow.{pow-lt, shr-shr}
 use lib.Bits.{bitOr, bitAnd, or-shr, or-step, and-shr, and-step}
-use lib.Dec.{eqb}
 use Rattle.rules.specs.Marks.{marked, mark, unmark}
 use Rattle.rules.specs.Numbers.{dist}
 use Rattle.rules.specs.Fit.{Within}

@@ -9,7 +9,7 @@ use Rattle.rules.specs.Marks.{marked, mark, unmark}
 use Rattle.rules.specs.Rows.{row}
 use Rattle.rules.specs.Parts.{is-no-data, is-no-ack, fresh-bench}
 use Rattle.rules.specs.Malformed.{all-from, every, formed-recent, formed-sender, formed-receiver, right-data, right-ack, formed-data, formed-ack, formed-channel, formed-bench, malformed-bench}
-use Rattle.rules.specs.Events.{Event, accept, send, arrive, room, acknowledge, hear, dropd, dropa, dupd, dupa, tick, act}
+use Rattle.rules.specs.Events.{Event, accept, send, arrive, room, acknowledge, hear, dupd, act}
 use Rattle.rules.specs.Operations.{step}
 use Rattle.rules.specs.Runs.{Said, run}
 

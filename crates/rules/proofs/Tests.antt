@@ -1,7 +1,6 @@
 -- Laws of tests: two tests in one, and tests turned into facts.
 use mathlib.Core.Path.{_≡_, refl, sym}
 use mathlib.Core.Bool.{Bool, true, false, not, _&&_, _||_, false≢true}
-use Prim.Native.Nat.{ℕ}
 use Rattle.rules.specs.Setups.{_also_}
 
 pub both : {a b : Bool} → a also b ≡ true → (a ≡ true) × (b ≡ true)

@@ -1,13 +1,12 @@
 -- The wrapped comparison, proved once over the range's size: differences round a range of N values, and the true difference that
 -- they show. Sequence numbers and clocks both cite it.
-use mathlib.Core.Path.{_≡_, refl, sym, _∙_, ap}
+use mathlib.Core.Path.{_≡_, sym, _∙_}
 use Prim.Native.Nat.{ℕ, suc, _+_, _-_, _*_, _/_, _%_, _≤_, _<_}
 use native.Mathlib.Nat.{mod-add-mod, mod-eq-of-lt, add-mul-mod-self-right, div-add-mod', mod-lt}
 use native.Mathlib.Omega.{arith}
 use native.Mathlib.Decide.{decLe, decLt}
-use mathlib.Core.Bool.{Bool, true, false, cond}
-use lib.Dec.{leb, ltb, eqb}
-use lib.IntN.{ℤ, pos, negsuc, subℕ}
+use lib.Dec.{leb, ltb}
+use lib.IntN.{pos, subℕ}
 use Rattle.rules.specs.Numbers.{dist, Place, behind, ahead, place}
 use borrow.Author.Tests.{le-leb, lt-leb, lt-ltb, le-ltb}
 

@@ -1,7 +1,7 @@
 -- The events, in document 01's order. A test `may-..` goes through an event's refusals in their order; it is handed what to make
 -- of a refusal's number (`refuse`) and of an event that goes on (`go`). The event itself, as `accepting`, is its test and its
 -- effect on the end or the channel that it concerns; the bench applies it to that part.
-use mathlib.Core.Bool.{Bool, true, false, cond}
+use mathlib.Core.Bool.{Bool, true, cond}
 use mathlib.Core.List.{List, [], _∷_, _++_}
 use Prim.Native.Nat.{ℕ, zero, suc, _+_, _-_, _%_, max}
 use lib.Dec.{leb, ltb, eqb}

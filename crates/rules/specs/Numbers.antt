@@ -1,8 +1,8 @@
 -- Sequence numbers and clock values: how they move, differ and are compared.
 -- The arithmetic is a parameter of every rule. `wrapped` is what the code does, round the range of a setup; `whole` never
 -- wraps and compares truly. The same text of the rules, read at one and at the other, is what the theorem of agreement joins.
-use mathlib.Core.Bool.{Bool, true, false, cond}
-use Prim.Native.Nat.{ℕ, zero, suc, _+_, _-_, _/_, _%_, _^_}
+use mathlib.Core.Bool.{Bool, true, cond}
+use Prim.Native.Nat.{ℕ, _+_, _-_, _/_, _%_, _^_}
 use lib.Dec.{leb, ltb}
 use lib.IntN.{ℤ, pos, negsuc, subℕ}
 use Rattle.rules.specs.declared.Setup.{Setup}

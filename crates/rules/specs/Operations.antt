@@ -1,7 +1,6 @@
 -- The public operations: what each gives back on every input. An operation refuses a malformed state with 2, a short row with 8
 -- and a packet out of range with 3, in this order, and then does what the event's rule says. The contracts cite these.
-use mathlib.Core.Bool.{Bool, true, false, cond}
-use mathlib.Core.List.{List, []}
+use mathlib.Core.Bool.{Bool, cond}
 use Prim.Native.Nat.{ℕ}
 use lib.ListN.{length}
 use Rattle.rules.specs.declared.Setup.{Setup}
@@ -24,8 +23,8 @@ use Rattle.rules.specs.declared.AckChannelTaken.{AckChannelTaken}
 use Rattle.rules.specs.declared.BenchDone.{BenchDone}
 use Rattle.rules.specs.Numbers.{Arith, wrapped}
 use Rattle.rules.specs.Setups.{admitted, zero-setup}
-use Rattle.rules.specs.Parts.{Channel, data-channel, ack-channel, no-data, no-ack, fresh-sender, fresh-receiver, fresh-data-channel, fresh-ack-channel, fresh-bench}
-use Rattle.rules.specs.Malformed.{right-data, right-ack, malformed-sender, malformed-receiver, malformed-data-channel, malformed-ack-channel, malformed-bench}
+use Rattle.rules.specs.Parts.{Channel, no-data, no-ack}
+use Rattle.rules.specs.Malformed.{right-data, right-ack, malformed-sender, malformed-receiver, malformed-bench}
 use Rattle.rules.specs.Events.{Out, refused, done, Made, gives, accepting, sending, may-lend, arriving, opening, ack-of, hearing, adding, taking, dropping, copying, ticked-channel, ticked-sender, ticked-receiver, Event, act}
 
 -- ---- the refusals that come first

@@ -1,6 +1,6 @@
 -- `admitted` meets its contract: the ranges are asked for only where both have at most 32 bits.
-use mathlib.Core.Path.{_≡_, sym, _∙_}
-use Rattle.rules.specs.Setups.{_also_, in-limits, admitted}
+use mathlib.Core.Path.{sym, _∙_}
+use Rattle.rules.specs.Setups.{_also_, admitted}
 use Rattle.rules.proofs.Fits.{bits-fit}
 use borrow.Author.Needs.{needs}
 use Rattle.setup.proofs.admitted.Statement.{statement}

@@ -1,10 +1,8 @@
 -- `apart` meets its contract: 32 bits are a whole number of turns of the range, so the remainder forgets the wrap.
 use borrow.Author.Needs.{needs}
-use mathlib.Core.Path.{_≡_, _∙_, ap, sym}
+use mathlib.Core.Path.{_∙_, ap, sym}
 use Prim.Native.Nat.{ℕ, _+_, _%_, _^_, _-_}
-use native.Mathlib.Nat.{mod-lt}
 use native.Mathlib.Omega.{arith}
-use lib.Pow.{pow-pos}
 use Rattle.numbers.proofs.Laws.{wrap-apart, divides, rem-fits}
 use Rattle.numbers.proofs.core.apart.Statement.{statement}
 use Rattle.numbers.proofs.core.apart.Tie as tie
