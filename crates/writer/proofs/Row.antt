@@ -4,7 +4,7 @@ use mathlib.Core.List.{List, [], _∷_, _++_, append-assoc}
 use Prim.Native.Nat.{ℕ, _+_, _≤_, _<_}
 use native.Mathlib.Omega.{arith}
 use native.Mathlib.Numerals.{add-one}
-use lib.ListN.{length, take, drop, set, length-append}
+use lib.ListN.{length, take, drop, set, length-append, take-append-drop}
 use lib.Seq.{paste, take-paste, drop-paste, length-paste, take-length, drop-drop, set-split, take-append-seam}
 use Rattle.writer.specs.Row.{put, Put}
 
@@ -37,6 +37,10 @@ module _ (d : List ℕ) (at : ℕ) (s : List ℕ) where
 pub put-one : (d : List ℕ) (at b : ℕ) → at < length d → set d at b ≡ put d at (b ∷ [])
 unfolding put
 put-one d at b h = set-split d at b h ∙ rw (add-one at)
+
+pub put-nothing : (d : List ℕ) (at : ℕ) → put d at [] ≡ d
+unfolding put
+put-nothing d at = let e : at + 0 ≡ at = omega arith in rw e (take-append-drop at d)
 
 -- one thing put after another
 pub put-then : {d₀ d₁ d₂ s t : List ℕ} {at a b : ℕ} → at ≤ length d₀ → Put d₀ d₁ at s a → Put d₁ d₂ a t b → Put d₀ d₂ at (s ++ t) b

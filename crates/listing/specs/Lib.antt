@@ -1,0 +1,4 @@
+pub mod Listing
+pub mod Run
+pub mod Fitting
+pub mod Output
