@@ -2,3 +2,4 @@ pub mod Listing
 pub mod Run
 pub mod Fitting
 pub mod Output
+pub mod One
