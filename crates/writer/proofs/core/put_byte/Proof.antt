@@ -1,0 +1,21 @@
+-- `put_byte` meets its contract: one store is one byte put.
+use borrow.Author.Needs.{needs}
+use mathlib.Core.Path.{refl}
+use Rattle.writer.proofs.Row.{put-one}
+use Rattle.writer.proofs.core.put_byte.Statement.{statement}
+use Rattle.writer.proofs.core.put_byte.Tie as tie
+
+slice-write-out : tie.Need-slice-write-out
+slice-write-out c = search needs
+
+add-result : tie.Need-add-result
+add-result c = search needs
+
+same-length : tie.Need-same-length
+same-length c = search needs
+
+returns : tie.Need-returns
+returns c = record { row = put-one _ _ _ (c .pre); next = refl }
+
+pub put-byte-spec : {M : Type 1} → statement M
+put-byte-spec = tie.close (tie.spec slice-write-out add-result same-length returns)
