@@ -1,5 +1,7 @@
 // The bench: a sender, a receiver and the two channels between them, one event at a time. Each operation takes the bench by value
 // and gives it back; a malformed one is refused with 2 and given back as it was. `count` is 0 but where units were delivered.
+#![tactic(auto)]
+
 ghost use Rattle.core.specs.Prelude.{◌≡◌, length};
 ghost use Rattle.rules.specs.Numbers.{wrapped};
 ghost use Rattle.rules.specs.Rows.{laid};

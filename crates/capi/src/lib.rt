@@ -1,5 +1,7 @@
 // What C and Rust call, as a static library: functions on numbers and slices alone. include/escarpoll.h says the same in C.
 // None has a `requires`, so a caller owes nothing but slices that are there.
+#![tactic(auto)]
+
 ghost use Rattle.std.specs.Prelude.{◌≡◌};
 ghost use Rattle.soak.specs.Run.{soaked};
 

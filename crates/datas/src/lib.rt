@@ -1,5 +1,7 @@
 // The data channel: at most 32 packets, in order. Each operation takes the channel by value and gives it back; a malformed one is
 // refused with 2 and given back as it was.
+#![tactic(auto)]
+
 ghost use Rattle.core.specs.Prelude.{◌≡◌};
 ghost use Rattle.rules.specs.Numbers.{wrapped};
 ghost use Rattle.rules.specs.Parts.{data_channel, fresh_data_channel};

@@ -1,4 +1,6 @@
 // What a script prints: the listing of its bytes. specs/Listing.antt defines it; `core` writes it a line or a row at a time.
+#![tactic(auto)]
+
 ghost use Rattle.listing.specs.Fitting.{Wrote};
 
 pub mod core;

@@ -1,4 +1,6 @@
 // Reading a script: a line without its line feed is a key, `=` and a value. What a line can ask for is in specs/Lines.antt.
+#![tactic(auto)]
+
 ghost use Rattle.core.specs.Prelude.{◌≡◌};
 ghost use Rattle.reader.specs.Cuts.{split};
 ghost use Rattle.reader.specs.Values.{value_of};

@@ -1,5 +1,7 @@
 // The receiver. Each operation takes the receiver by value and gives it back; a malformed one is refused with 2 and given back
 // as it was.
+#![tactic(auto)]
+
 ghost use Rattle.core.specs.Prelude.{◌≡◌, length};
 ghost use Rattle.rules.specs.Numbers.{wrapped};
 ghost use Rattle.rules.specs.Rows.{laid};

@@ -1,4 +1,5 @@
 // What the parts hold and what their operations give back. There is no function here: the rules over these records are in specs/.
+#![tactic(auto)]
 
 // The eight numbers that every part carries.
 #[derive(Drop)]

@@ -1,4 +1,6 @@
 // Runs the script on standard input, and writes its listing to standard output.
+#![tactic(auto)]
+
 use libc::{STDIN_FILENO, STDOUT_FILENO};
 
 // The first line, and then rows of whole lines as long as there are more: what they hold, joined, is the listing

@@ -1,5 +1,7 @@
 // Long runs of mixed events on one bench from fresh, with the test of the state at each event and without it. Both are proved to give
 // one number, `soaked` of specs/Run.antt: a checksum over every answer, count and delivered unit.
+#![tactic(auto)]
+
 ghost use Rattle.std.specs.Prelude.{◌≡◌};
 ghost use Rattle.soak.specs.Run.{soak_setup, soaked};
 

@@ -1,6 +1,8 @@
 // A tour of the bench, as a caller drives it: a loss, a reordering, a copy, a lap of the sequence numbers, a damaged state. It prints
 // what each operation answers. Every operation takes the bench by value and gives the next one back, and none can be handed
 // something that it does not check.
+#![tactic(auto)]
+
 use libc::STDOUT_FILENO;
 use rules::{Bench, BenchDone, Setup};
 
