@@ -6,27 +6,18 @@ use Prim.Native.Nat.{ℕ, zero, suc, ◌<◌}
 use native.Mathlib.Omega.{arith}
 use lib.Dec.{leb}
 use lib.ListN.{length, get_or}
-use mir.Val.{Val}
-use denote.Laws.{Is}
-use Rattle.rules.specs.contracts.Bench.{the_row as bench-row}
 use Rattle.rules.specs.declared.Setup.{Setup}
 use Rattle.rules.specs.declared.Sender.{Sender}
 use Rattle.rules.specs.declared.Receiver.{Receiver}
 use Rattle.rules.specs.declared.Bench.{Bench}
 use Rattle.rules.specs.Parts.{no_data, no_ack, new_data, new_ack, bare_data, bare_ack, Channel, live, data_channel, ack_channel}
-use Rattle.rules.specs.Malformed.{every, malformed_bench}
+use Rattle.rules.specs.Malformed.{every}
 use Rattle.rules.specs.Fit.{FitData, FitAck, FitBench}
-use Rattle.rules.specs.Numbers.{Arith, wrapped}
+use Rattle.rules.specs.Numbers.{Arith}
 use Rattle.rules.specs.Events.{refused, done, gives, packet_of, sending, opened, opening, packet_at, removed, taking}
 use Rattle.rules.proofs.Tests.{both}
-use Rattle.rules.proofs.Fits.{fit_data, fit_ack, fit_bench}
-use Rattle.rules.proofs.Channels.{length_live, places_datas, places_acks}
-
--- ---- a bench that is not malformed is fit for the work. A value of the type has 32 places in each channel
-pub sound_bench : (b : Bench) (vs : List Val) → Is bench-row b vs → malformed_bench wrapped b ≡ false → FitBench b
-sound_bench b vs g e =
-    let parts = g.1.1 in
-    fit_bench b (places_datas b.datas _ parts.1.1.0) (places_acks b.acks _ parts.1.1.1.0) e
+use Rattle.rules.proofs.Fits.{fit_data, fit_ack}
+use Rattle.rules.proofs.Channels.{length_live}
 
 -- ---- each packet that a channel holds is in range
 every_at : {A : Type 0} (f : A → Bool) (z : A) (l : List A) (j : ℕ) → every f l ≡ true → j < length l → f (get_or l j z) ≡ true

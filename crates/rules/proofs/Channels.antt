@@ -4,15 +4,11 @@ use mathlib.Core.Bool.{Bool, false}
 use mathlib.Core.List.{List, [], ◌∷◌, ◌++◌}
 use Prim.Native.Nat.{ℕ, ◌+◌, ◌-◌, ◌≤◌, ◌<◌}
 use native.Mathlib.Omega.{arith}
-use lib.ListN.{length, get_or, set, length-append, length-take, length-map}
+use lib.ListN.{length, get_or, set, length-append, length-take}
 use lib.Seq.{length-take-le, get_or-take}
-use mir.Val.{Val}
-use denote.Laws.{Is}
 use borrow.Author.Tests.{le-leb, lt-leb}
 use Rattle.rules.specs.declared.DataChannel.{DataChannel}
 use Rattle.rules.specs.declared.AckChannel.{AckChannel}
-use Rattle.rules.specs.contracts.DataChannel.{the_row as data-row}
-use Rattle.rules.specs.contracts.AckChannel.{the_row as ack-row}
 use Rattle.rules.specs.Numbers.{wrapped}
 use Rattle.rules.specs.Setups.{◌also◌}
 use Rattle.rules.specs.Rows.{row, remove, closed}
@@ -75,20 +71,14 @@ module _ {H P C : Type 0} (K : Channel H P C) (right : P → Bool) (c : C) where
   formed_places h n = rw (le-leb (K.count c) 32 h) (rw (← n) (sym (by_places (empty K) right K.is_nothing (K.count c) (K.packets c))))
 
 -- ---- a channel that is not malformed: its setup is admitted, and it is fit. A value of the type has 32 places
-pub places_datas : (c : DataChannel) (vs : List Val) → Is data-row c vs → length c.packets ≡ 32
-places_datas c vs g = sym (length-map c.packets _) ∙ g.1.1.1.0.1.0.1
-
-pub places_acks : (c : AckChannel) (vs : List Val) → Is ack-row c vs → length c.packets ≡ 32
-places_acks c vs g = sym (length-map c.packets _) ∙ g.1.1.1.0.1.0.1
-
-pub sound_datas : (c : DataChannel) (vs : List Val) → Is data-row c vs → malformed_data_channel wrapped c ≡ false
+pub sound_datas : (c : DataChannel) → length c.packets ≡ 32 → malformed_data_channel wrapped c ≡ false
     → FitSetup c.setup × FitChannel data_channel c
 unfolding malformed_data_channel
-sound_datas c vs g e =
-    let a = both (passes _ e) in (fit_setup (limits c.setup a.0), fit_datas _ c (places_datas c vs g) a.1)
+sound_datas c n e =
+    let a = both (passes _ e) in (fit_setup (limits c.setup a.0), fit_datas _ c n a.1)
 
-pub sound_acks : (c : AckChannel) (vs : List Val) → Is ack-row c vs → malformed_ack_channel wrapped c ≡ false
+pub sound_acks : (c : AckChannel) → length c.packets ≡ 32 → malformed_ack_channel wrapped c ≡ false
     → FitSetup c.setup × FitChannel ack_channel c
 unfolding malformed_ack_channel
-sound_acks c vs g e =
-    let a = both (passes _ e) in (fit_setup (limits c.setup a.0), fit_acks _ c (places_acks c vs g) a.1)
+sound_acks c n e =
+    let a = both (passes _ e) in (fit_setup (limits c.setup a.0), fit_acks _ c n a.1)

@@ -6,7 +6,7 @@ use Prim.Native.Nat.{ℕ, zero, suc, ◌+◌, ◌-◌, ◌*◌, ◌/◌, ◌%◌
 use native.Mathlib.Nat.{add-mod_right, add-zero, div-one, mod-lt}
 use native.Mathlib.Decide.{ℕ_discrete, dec_lt}
 use native.Mathlib.Omega.{arith}
-use native.Mathlib.Numerals.{one_add}
+use native.Mathlib.Numerals.{one-add}
 use lib.Pow.{pow-lt, shr-shr}
 use lib.Bits.{bit_or, bit_and, or_shr, or_step, and_shr, and_step}
 use Rattle.rules.specs.Marks.{marked, mark, unmark}
@@ -30,7 +30,7 @@ bit_of_and a b i = rw (and_shr a b i, and_step (a / 2 ^ i) (b / 2 ^ i)) (low_bit
 
 bit_suc : (w i : ℕ) → bit w (suc i) ≡ bit (w / 2) i
 unfolding bit
-bit_suc w i = rw (← one_add i) (ap (◌% 2) (sym (shr-shr w 1 i)))
+bit_suc w i = rw (← one-add i) (ap (◌% 2) (sym (shr-shr w 1 i)))
 
 bit_zero : (w : ℕ) → bit w 0 ≡ w % 2
 unfolding bit

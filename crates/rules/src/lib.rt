@@ -2,7 +2,7 @@
 #![tactic(auto)]
 
 // The eight numbers that every part carries.
-#[derive(Drop)]
+#[derive(Clone, Copy)]
 pub struct Setup {
     pub window: u32,
     pub seqbits: u32,
@@ -15,14 +15,14 @@ pub struct Setup {
 }
 
 // A remembered timestamp with its age; where none is held, both are 0.
-#[derive(Drop)]
+#[derive(Clone, Copy)]
 pub struct Recent {
     pub held: bool,
     pub stamp: u32,
     pub age: u32,
 }
 
-#[derive(Drop)]
+#[derive(Clone, Copy)]
 pub struct Sender {
     pub setup: Setup,
     pub una: u32,
@@ -34,7 +34,7 @@ pub struct Sender {
     pub slots: [u64; 64],
 }
 
-#[derive(Drop)]
+#[derive(Clone, Copy)]
 pub struct Receiver {
     pub setup: Setup,
     pub nxt: u32,
@@ -46,14 +46,14 @@ pub struct Receiver {
 }
 
 // Packets as they are handed to an end or a channel: without an age.
-#[derive(Drop)]
+#[derive(Clone, Copy)]
 pub struct BareData {
     pub seq: u32,
     pub stamp: u32,
     pub unit: u64,
 }
 
-#[derive(Drop)]
+#[derive(Clone, Copy)]
 pub struct BareAck {
     pub ack: u32,
     pub window: u32,
@@ -61,7 +61,7 @@ pub struct BareAck {
 }
 
 // Packets as a channel holds them.
-#[derive(Drop)]
+#[derive(Clone, Copy)]
 pub struct DataPacket {
     pub seq: u32,
     pub stamp: u32,
@@ -69,7 +69,7 @@ pub struct DataPacket {
     pub age: u32,
 }
 
-#[derive(Drop)]
+#[derive(Clone, Copy)]
 pub struct AckPacket {
     pub ack: u32,
     pub window: u32,
@@ -77,21 +77,21 @@ pub struct AckPacket {
     pub age: u32,
 }
 
-#[derive(Drop)]
+#[derive(Clone, Copy)]
 pub struct DataChannel {
     pub setup: Setup,
     pub packets: [DataPacket; 32],
     pub count: u32,
 }
 
-#[derive(Drop)]
+#[derive(Clone, Copy)]
 pub struct AckChannel {
     pub setup: Setup,
     pub packets: [AckPacket; 32],
     pub count: u32,
 }
 
-#[derive(Drop)]
+#[derive(Clone, Copy)]
 pub struct Bench {
     pub sender: Sender,
     pub receiver: Receiver,
@@ -100,26 +100,26 @@ pub struct Bench {
 }
 
 // What an operation gives back: the answer number first, the state last.
-#[derive(Drop)]
+#[derive(Clone, Copy)]
 pub struct SenderDone {
     pub answer: u32,
     pub sender: Sender,
 }
 
-#[derive(Drop)]
+#[derive(Clone, Copy)]
 pub struct SenderSent {
     pub answer: u32,
     pub packet: BareData,
     pub sender: Sender,
 }
 
-#[derive(Drop)]
+#[derive(Clone, Copy)]
 pub struct ReceiverDone {
     pub answer: u32,
     pub receiver: Receiver,
 }
 
-#[derive(Drop)]
+#[derive(Clone, Copy)]
 pub struct ReceiverAcked {
     pub answer: u32,
     pub packet: BareAck,
@@ -127,40 +127,40 @@ pub struct ReceiverAcked {
 }
 
 // `count` units were written to the lent row.
-#[derive(Drop)]
+#[derive(Clone, Copy)]
 pub struct ReceiverTook {
     pub answer: u32,
     pub count: usize,
     pub receiver: Receiver,
 }
 
-#[derive(Drop)]
+#[derive(Clone, Copy)]
 pub struct DataChannelDone {
     pub answer: u32,
     pub channel: DataChannel,
 }
 
-#[derive(Drop)]
+#[derive(Clone, Copy)]
 pub struct DataChannelTaken {
     pub answer: u32,
     pub packet: BareData,
     pub channel: DataChannel,
 }
 
-#[derive(Drop)]
+#[derive(Clone, Copy)]
 pub struct AckChannelDone {
     pub answer: u32,
     pub channel: AckChannel,
 }
 
-#[derive(Drop)]
+#[derive(Clone, Copy)]
 pub struct AckChannelTaken {
     pub answer: u32,
     pub packet: BareAck,
     pub channel: AckChannel,
 }
 
-#[derive(Drop)]
+#[derive(Clone, Copy)]
 pub struct BenchDone {
     pub answer: u32,
     pub count: usize,

@@ -126,9 +126,9 @@ module _ (S : Setup) (v : Wide S) (log : ℕ → ℕ) where
             setups = i.setups;
             line = record {
               fall = i.line.fall;
-              down = λ k. elim k [ zero ↦ omega (arith, i.line.down 0) | suc k ↦ i.line.down (suc k) ];
-              under = λ k. elim k [ zero ↦ omega (arith, r.upto) | suc k ↦ i.line.under (suc k) ];
-              over = λ k. elim k [ zero ↦ omega (arith, i.line.over 0) | suc k ↦ i.line.over (suc k) ];
+              down = λ k. elim k as (λ k. now z.nxt i.past.g (suc k) ≤ now z.nxt i.past.g k) [ zero ↦ omega (arith, i.line.down 0) | suc k ↦ i.line.down (suc k) ];
+              under = λ k. elim k as (λ k. now z.nxt i.past.g k ≤ i.past.h k) [ zero ↦ omega (arith, r.upto) | suc k ↦ i.line.under (suc k) ];
+              over = λ k. elim k as (λ k. i.past.h k ≤ now z.nxt i.past.g k + S.window) [ zero ↦ omega (arith, i.line.over 0) | suc k ↦ i.line.over (suc k) ];
             };
             nums = omega (arith, r.edge, r.upto);
             edges = record {

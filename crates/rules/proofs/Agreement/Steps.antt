@@ -88,8 +88,8 @@ module _ (S : Setup) (v : Wide S) (log : ℕ → ℕ) where
             line = record {
               fall = falls_now e up (omega arith) i.line.fall;
               down = i.line.down;
-              under = λ k. elim k [ zero ↦ omega (arith, i.line.under 0) | suc k ↦ i.line.under (suc k) ];
-              over = λ k. elim k [ zero ↦ omega arith | suc k ↦ i.line.over (suc k) ];
+              under = λ k. elim k as (λ k. i.past.g k ≤ now e i.past.h k) [ zero ↦ omega (arith, i.line.under 0) | suc k ↦ i.line.under (suc k) ];
+              over = λ k. elim k as (λ k. now e i.past.h k ≤ i.past.g k + S.window) [ zero ↦ omega arith | suc k ↦ i.line.over (suc k) ];
             };
             nums = omega arith;
             edges = i.edges;
@@ -265,9 +265,9 @@ module _ (S : Setup) (v : Wide S) (log : ℕ → ℕ) where
         setups = i.setups;
         line = record {
           fall = falls_push i.line.fall;
-          down = λ k. elim k [ zero ↦ omega arith | suc k ↦ i.line.down k ];
-          under = λ k. elim k [ zero ↦ i.line.under 0 | suc k ↦ i.line.under k ];
-          over = λ k. elim k [ zero ↦ i.line.over 0 | suc k ↦ i.line.over k ];
+          down = λ k. elim k as (λ k. push i.past.g (suc k) ≤ push i.past.g k) [ zero ↦ omega arith | suc k ↦ i.line.down k ];
+          under = λ k. elim k as (λ k. push i.past.g k ≤ push i.past.h k) [ zero ↦ i.line.under 0 | suc k ↦ i.line.under k ];
+          over = λ k. elim k as (λ k. push i.past.h k ≤ push i.past.g k + S.window) [ zero ↦ i.line.over 0 | suc k ↦ i.line.over k ];
         };
         nums = omega arith;
         edges = i.edges;

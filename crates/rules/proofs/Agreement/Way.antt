@@ -75,8 +75,8 @@ module _ {D : ℕ} {f : ℕ → ℕ} (fall : Falls D f) where
   -- ---- a tick
   pub falls_push : Falls D (push f)
   falls_push = record {
-    down = λ k. elim k [ zero ↦ omega arith | suc k ↦ fall.down k ];
-    near = λ k. elim k [ zero ↦ omega arith | suc k ↦ fall.near k ];
+    down = λ k. elim k as (λ k. push f (suc k) ≤ push f k) [ zero ↦ omega arith | suc k ↦ fall.down k ];
+    near = λ k. elim k as (λ k. push f k ≤ push f (suc k) + D) [ zero ↦ omega arith | suc k ↦ fall.near k ];
   }
 
   pub kept_push : {L T m : ℕ} {r : Recent} → Kept L T f m r → Kept L (suc T) (push f) m (older L r)
@@ -105,9 +105,9 @@ above v f up (suc k) = omega arith
 
 module _ (v : ℕ) {f : ℕ → ℕ} (up : f zero ≤ v) where
   pub falls_now : {D : ℕ} → v ≤ f (suc zero) + D → Falls D f → Falls D (now v f)
-  falls_now n h = record {
-    down = λ k. elim k [ zero ↦ omega (arith, h.down zero) | suc k ↦ h.down (suc k) ];
-    near = λ k. elim k [ zero ↦ n | suc k ↦ h.near (suc k) ];
+  falls_now {D} n h = record {
+    down = λ k. elim k as (λ k. now v f (suc k) ≤ now v f k) [ zero ↦ omega (arith, h.down zero) | suc k ↦ h.down (suc k) ];
+    near = λ k. elim k as (λ k. now v f k ≤ now v f (suc k) + D) [ zero ↦ n | suc k ↦ h.near (suc k) ];
   }
 
   pub sent_now : {L W T x y stamp age : ℕ} → Sent L W T f x y stamp age → Sent L W T (now v f) x y stamp age
