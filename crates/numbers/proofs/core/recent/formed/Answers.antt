@@ -1,0 +1,12 @@
+-- `formed` meets its contract: each return is one case of the rule.
+use Rattle.rules.specs.Setups.{◌also◌}
+use Rattle.rules.specs.Malformed.{formed_recent}
+use Rattle.numbers.proofs.core.recent.formed.Goals as goal
+
+pub returns-then-r : goal.returns-then-r
+unfolding formed_recent ◌also◌
+returns-then-r c = rw (c.if-r.true, c.in_range.ensures)
+
+pub returns-else-r : goal.returns-else-r
+unfolding formed_recent ◌also◌
+returns-else-r c = rw c.if-r.false
