@@ -1,5 +1,5 @@
 -- Of each public operation any two results that its contract allows are equal.
-use Rattle.core.specs.Prelude.{ℕ}
+use Rattle.std.specs.Prelude.{ℕ}
 use Rattle.rules.specs.declared.Setup.{Setup}
 use Rattle.rules.specs.declared.BareAck.{BareAck}
 use Rattle.rules.specs.declared.AckChannel.{AckChannel}

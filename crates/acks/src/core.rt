@@ -1,5 +1,5 @@
 // The acknowledgement channel's work, on a channel that is not malformed, and the test of whether it is.
-ghost use Rattle.core.specs.Prelude.{◌≡◌, ◌+◌, ◌<◌};
+ghost use Rattle.std.specs.Prelude.{◌≡◌, ◌+◌, ◌<◌};
 ghost use Rattle.rules.specs.Numbers.{wrapped};
 ghost use Rattle.rules.specs.Rows.{closed};
 ghost use Rattle.rules.specs.Parts.{ack_channel, no_ack, fresh_ack_channel};

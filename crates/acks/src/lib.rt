@@ -2,7 +2,7 @@
 // refused with 2 and given back as it was.
 #![tactic(auto)]
 
-ghost use Rattle.core.specs.Prelude.{◌≡◌};
+ghost use Rattle.std.specs.Prelude.{◌≡◌};
 ghost use Rattle.rules.specs.Numbers.{wrapped};
 ghost use Rattle.rules.specs.Parts.{ack_channel, fresh_ack_channel};
 ghost use Rattle.rules.specs.Malformed.{right_ack, malformed_ack_channel};

@@ -1,6 +1,6 @@
 -- What the caller sees of the bench's operations is the run on whole numbers: by the contracts it is the run on wrapped numbers,
 -- and the two agree.
-use Rattle.core.specs.Prelude.{◌≡◌, ℕ, Bool, true, false, List, ◌∷◌, map, length, take, drop}
+use Rattle.std.specs.Prelude.{◌≡◌, ℕ, Bool, true, false, List, ◌∷◌, map, length, take, drop}
 use mathlib.Core.Path.{refl, sym, ◌∙◌, ap, ap₂}
 use native.Mathlib.Omega.{arith}
 use lib.Seq.{take-append_seam}

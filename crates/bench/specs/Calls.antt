@@ -1,6 +1,6 @@
 -- Calls of the bench's operations, one after the other, as their contracts allow them; and what the theorem of agreement says of
 -- them: whoever calls the operations on a bench that `fresh` gave sees, call by call, what the run on whole numbers answers.
-use Rattle.core.specs.Prelude.{◌≡◌, ℕ, List, [], ◌∷◌, map, length, take}
+use Rattle.std.specs.Prelude.{◌≡◌, ℕ, List, [], ◌∷◌, map, length, take}
 use Rattle.rules.specs.declared.Setup.{Setup}
 use Rattle.rules.specs.declared.Bench.{Bench}
 use Rattle.rules.specs.declared.BenchDone.{BenchDone}

@@ -1,5 +1,5 @@
 -- Of each public operation any two results that its contract allows are equal; of `data` the lent row too.
-use Rattle.core.specs.Prelude.{ℕ, List, length}
+use Rattle.std.specs.Prelude.{ℕ, List, length}
 use Rattle.rules.specs.declared.Setup.{Setup}
 use Rattle.rules.specs.declared.Bench.{Bench}
 use Rattle.rules.specs.Numbers.{wrapped}

@@ -1,5 +1,5 @@
 -- The bench's test in two steps: the four setups first, and then the parts.
-use Rattle.core.specs.Prelude.{◌≡◌, Bool}
+use Rattle.std.specs.Prelude.{◌≡◌, Bool}
 use Rattle.rules.specs.declared.Bench.{Bench}
 use Rattle.rules.specs.Numbers.{wrapped}
 use Rattle.rules.specs.Setups.{◌also◌, same_setup}

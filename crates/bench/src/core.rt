@@ -1,6 +1,6 @@
 // The bench's events on a bench that is not malformed, by value, and the test of whether it is. Each event is its part's, with the
 // part put back.
-ghost use Rattle.core.specs.Prelude.{◌≡◌, length};
+ghost use Rattle.std.specs.Prelude.{◌≡◌, length};
 ghost use Rattle.rules.specs.Numbers.{wrapped};
 ghost use Rattle.rules.specs.Rows.{laid};
 ghost use Rattle.rules.specs.Parts.{fresh_bench};

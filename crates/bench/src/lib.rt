@@ -2,7 +2,7 @@
 // and gives it back; a malformed one is refused with 2 and given back as it was. `count` is 0 but where units were delivered.
 #![tactic(auto)]
 
-ghost use Rattle.core.specs.Prelude.{◌≡◌, length};
+ghost use Rattle.std.specs.Prelude.{◌≡◌, length};
 ghost use Rattle.rules.specs.Numbers.{wrapped};
 ghost use Rattle.rules.specs.Rows.{laid};
 ghost use Rattle.rules.specs.Parts.{fresh_bench};

@@ -2,7 +2,7 @@
 // refused with 2 and given back as it was.
 #![tactic(auto)]
 
-ghost use Rattle.core.specs.Prelude.{◌≡◌};
+ghost use Rattle.std.specs.Prelude.{◌≡◌};
 ghost use Rattle.rules.specs.Numbers.{wrapped};
 ghost use Rattle.rules.specs.Parts.{data_channel, fresh_data_channel};
 ghost use Rattle.rules.specs.Malformed.{right_data, malformed_data_channel};

@@ -1,5 +1,5 @@
 -- The session of document 01, from its bytes to its listing, computed from the definition.
-use Rattle.core.specs.Prelude.{◌≡◌}
+use Rattle.std.specs.Prelude.{◌≡◌}
 use mathlib.Core.Path.{refl}
 use Rattle.rules.specs.Numbers.{dist}
 use Rattle.rules.specs.Setups.{◌also◌, is_window, in_limits, in_ranges, admitted, same_setup}

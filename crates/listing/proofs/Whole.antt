@@ -1,5 +1,5 @@
 -- What the program writes is the listing.
-use Rattle.core.specs.Prelude.{◌≡◌, ℕ, zero, suc, ◌-◌, ◌<◌, ◌≤◌, Bool, true, false, cond, leb, List, [], ◌∷◌, ◌++◌, length}
+use Rattle.std.specs.Prelude.{◌≡◌, ℕ, zero, suc, ◌-◌, ◌<◌, ◌≤◌, Bool, true, false, cond, leb, List, [], ◌∷◌, ◌++◌, length}
 use mathlib.Core.Path.{refl, ap, sym, ◌∙◌}
 use mathlib.Core.Bool.{false≢true}
 use mathlib.Core.List.{append_assoc, append-nil}

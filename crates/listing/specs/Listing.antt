@@ -1,5 +1,5 @@
 -- What a script prints, from any bytes: `listing`. Bytes are cut at line feeds; what stands after the last one is no whole line.
-use Rattle.core.specs.Prelude.{ℕ, ◌+◌, ◌^◌, Bool, cond, ltb, List, [], ◌∷◌, ◌++◌, length, ◌==◌, nat_lt, slice_index}
+use Rattle.std.specs.Prelude.{ℕ, ◌+◌, ◌^◌, Bool, cond, ltb, List, [], ◌∷◌, ◌++◌, length, ◌==◌, nat_lt, slice_index}
 use Rattle.rules.specs.declared.Setup.{Setup}
 use Rattle.rules.specs.declared.Bench.{Bench}
 use Rattle.rules.specs.Numbers.{wrapped}

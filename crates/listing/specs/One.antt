@@ -1,5 +1,5 @@
 -- Any two results that a contract allows are equal, and so are the rows.
-use Rattle.core.specs.Prelude.{◌≡◌, ℕ, Bool, List}
+use Rattle.std.specs.Prelude.{◌≡◌, ℕ, Bool, List}
 use Rattle.std.proofs.Common.{ap, sym, ◌∙◌}
 use Rattle.writer.specs.One.{one_put}
 use Rattle.listing.specs.declared.Written.{Written}

@@ -1,6 +1,6 @@
 // Running a script. A run stands at the start of a line; a step reads that line, runs its event and writes one line of the listing
 // at the start of a lent row, which must have 2,048 bytes: the longest line has 64 units of 20 digits.
-ghost use Rattle.core.specs.Prelude.{ℕ, ◌≤◌, length};
+ghost use Rattle.std.specs.Prelude.{ℕ, ◌≤◌, length};
 ghost use Rattle.listing.specs.Run.{Ready, Stepped, Opened};
 ghost use Rattle.listing.specs.Fitting.{Filled};
 

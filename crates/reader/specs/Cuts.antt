@@ -1,5 +1,5 @@
 -- Cutting a text at a byte: a script at its line feeds (10), a table of keys at its `=`s (61).
-use Rattle.core.specs.Prelude.{◌≡◌, ℕ, suc, ◌+◌, ◌≤◌, Bool, true, false, cond, List, [], ◌∷◌, length, drop, ◌==◌}
+use Rattle.std.specs.Prelude.{◌≡◌, ℕ, suc, ◌+◌, ◌≤◌, Bool, true, false, cond, List, [], ◌∷◌, length, drop, ◌==◌}
 
 -- how many bytes stand before the first b
 unfoldable pub index_of : ℕ → List ℕ → ℕ

@@ -1,5 +1,5 @@
 -- Lines, without their line feed: a key, `=` and a value. A key is exactly one of the table's; any other line is bad.
-use Rattle.core.specs.Prelude.{ℕ, ◌+◌, Bool, true, false, cond, List, [], ◌∷◌, length, take, drop, ◌==◌}
+use Rattle.std.specs.Prelude.{ℕ, ◌+◌, Bool, true, false, cond, List, [], ◌∷◌, length, take, drop, ◌==◌}
 use Prim.Native.String.{String}
 use Rattle.reader.specs.declared.Value.{Value}
 use Rattle.reader.specs.declared.Value.TheVariants as ValueCase

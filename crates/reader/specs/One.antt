@@ -1,5 +1,5 @@
 -- Of each public function any two results that its contract allows are equal.
-use Rattle.core.specs.Prelude.{◌≡◌, ℕ, List}
+use Rattle.std.specs.Prelude.{◌≡◌, ℕ, List}
 use Rattle.std.proofs.Common.{sym, ◌∙◌}
 use Rattle.reader.specs.declared.Value.{Value}
 use Rattle.reader.specs.declared.Line.{Line}

@@ -1,5 +1,5 @@
 -- A quoted text as a list of bytes.
-use Rattle.core.specs.Prelude.{ℕ, List}
+use Rattle.std.specs.Prelude.{ℕ, List}
 use mathlib.Core.List as L
 use Prim.Native.String as S
 use Prim.Native.String.{String}

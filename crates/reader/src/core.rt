@@ -1,5 +1,5 @@
 // Where a line or a word ends.
-ghost use Rattle.core.specs.Prelude.{◌≤◌, length};
+ghost use Rattle.std.specs.Prelude.{◌≤◌, length};
 ghost use Rattle.reader.specs.Cuts.{Index};
 
 // The place of the first b of s from `from` on, or the length of s.

@@ -1,7 +1,7 @@
 // Reading a script: a line without its line feed is a key, `=` and a value. What a line can ask for is in specs/Lines.antt.
 #![tactic(auto)]
 
-ghost use Rattle.core.specs.Prelude.{◌≡◌};
+ghost use Rattle.std.specs.Prelude.{◌≡◌};
 ghost use Rattle.reader.specs.Cuts.{split};
 ghost use Rattle.reader.specs.Values.{value_of};
 ghost use Rattle.reader.specs.Lines.{same, place_of, field_of, only_one, pick, events, line_of, setup_keys, setup_value};

@@ -1,6 +1,6 @@
 -- The cases of the receiver's rules: one law for each answer, so that each return of the code cites one. And a receiver as a head
 -- and its slots: what is done to the head is what the rule does to the whole.
-use Rattle.core.specs.Prelude.{◌≡◌, ℕ, ◌+◌, ◌%◌, ◌<◌, ◌≤◌, Bool, true, false, cond, leb, List, [], set}
+use Rattle.std.specs.Prelude.{◌≡◌, ℕ, ◌+◌, ◌%◌, ◌<◌, ◌≤◌, Bool, true, false, cond, leb, List, [], set}
 use mathlib.Core.Path.{refl, sym, ◌∙◌}
 use native.Mathlib.Decide.{dec_lt}
 use native.Mathlib.Numerals.{add-one}

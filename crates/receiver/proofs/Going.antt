@@ -1,6 +1,6 @@
 -- A delivery on its way: what is out stands in the row from its start, and the rest is what the rule gives from there on. What
 -- the delivery's loop is proved by.
-use Rattle.core.specs.Prelude.{◌≡◌, ℕ, zero, suc, ◌+◌, ◌-◌, ◌%◌, ◌^◌, ◌<◌, ◌≤◌, true, false, List, [], ◌∷◌, ◌++◌, length, get_or, take, drop, set}
+use Rattle.std.specs.Prelude.{◌≡◌, ℕ, zero, suc, ◌+◌, ◌-◌, ◌%◌, ◌^◌, ◌<◌, ◌≤◌, true, false, List, [], ◌∷◌, ◌++◌, length, get_or, take, drop, set}
 use mathlib.Core.Path.{refl, ap, sym, ◌∙◌}
 use mathlib.Core.List.{append_assoc, append-nil}
 use Prim.Native.Nat.{◌∣◌}

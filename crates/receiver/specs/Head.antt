@@ -1,5 +1,5 @@
 -- A receiver as the work sees it: its numbers by value, as a head, and its slots lent.
-use Rattle.core.specs.Prelude.{◌≡◌, ℕ, ◌-◌, ◌%◌, ◌^◌, List, length}
+use Rattle.std.specs.Prelude.{◌≡◌, ℕ, ◌-◌, ◌%◌, ◌^◌, List, length}
 use Rattle.rules.specs.declared.Receiver.{Receiver}
 use Rattle.rules.specs.Rows.{laid}
 use Rattle.rules.specs.Parts.{since}

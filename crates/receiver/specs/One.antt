@@ -1,5 +1,5 @@
 -- Each public operation's contract allows one result.
-use Rattle.core.specs.Prelude.{◌≡◌, ℕ, Bool, List, length}
+use Rattle.std.specs.Prelude.{◌≡◌, ℕ, Bool, List, length}
 use Rattle.rules.specs.declared.BareData.{BareData}
 use Rattle.rules.specs.declared.Receiver.{Receiver}
 use Rattle.rules.specs.declared.ReceiverAcked.{ReceiverAcked}

@@ -1,5 +1,5 @@
 // The receiver's events on a receiver that is not malformed, by value, and the test of whether it is. The work is in `lent`.
-ghost use Rattle.core.specs.Prelude.{◌≡◌, ◌-◌, ◌<◌, ◌≤◌, length};
+ghost use Rattle.std.specs.Prelude.{◌≡◌, ◌-◌, ◌<◌, ◌≤◌, length};
 ghost use Rattle.rules.specs.Numbers.{wrapped};
 ghost use Rattle.rules.specs.Rows.{laid};
 ghost use Rattle.rules.specs.Parts.{fresh_receiver};

@@ -2,7 +2,7 @@
 // as it was.
 #![tactic(auto)]
 
-ghost use Rattle.core.specs.Prelude.{◌≡◌, length};
+ghost use Rattle.std.specs.Prelude.{◌≡◌, length};
 ghost use Rattle.rules.specs.Numbers.{wrapped};
 ghost use Rattle.rules.specs.Rows.{laid};
 ghost use Rattle.rules.specs.Parts.{fresh_receiver};

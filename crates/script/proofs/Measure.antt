@@ -1,5 +1,5 @@
 -- The loop's measure: the bytes of the script that are left, where there is more.
-use Rattle.core.specs.Prelude.{◌≡◌, ℕ, suc, ◌<◌, Bool, true, false, cond}
+use Rattle.std.specs.Prelude.{◌≡◌, ℕ, suc, ◌<◌, Bool, true, false, cond}
 use mathlib.Core.Path.{refl}
 use native.Mathlib.Omega.{arith}
 

@@ -1,6 +1,6 @@
 -- Laws that the sender's proofs cite: a sender whose slots lie elsewhere, what a send leaves, and one law for each answer to an
 -- acknowledgement.
-use Rattle.core.specs.Prelude.{◌≡◌, ℕ, suc, ◌<◌, ◌≤◌, Bool, true, false, cond, not, leb, List}
+use Rattle.std.specs.Prelude.{◌≡◌, ℕ, suc, ◌<◌, ◌≤◌, Bool, true, false, cond, not, leb, List}
 use mathlib.Core.Path.{refl}
 use native.Mathlib.Omega.{arith}
 use borrow.Author.Tests.{not-true, not-false, le-ltb, lt-ltb, le-leb, lt-leb}

@@ -1,5 +1,5 @@
 -- A sender as the work sees it: its numbers by value, as a head, and its slots lent.
-use Rattle.core.specs.Prelude.{◌≡◌, ℕ, ◌%◌, ◌^◌, List}
+use Rattle.std.specs.Prelude.{◌≡◌, ℕ, ◌%◌, ◌^◌, List}
 use Rattle.rules.specs.declared.BareData.{BareData}
 use Rattle.rules.specs.declared.Sender.{Sender}
 use Rattle.rules.specs.Events.{Out, Made}

@@ -1,5 +1,5 @@
 -- Each public operation's contract allows one result.
-use Rattle.core.specs.Prelude.{◌≡◌, ℕ, Bool}
+use Rattle.std.specs.Prelude.{◌≡◌, ℕ, Bool}
 use Rattle.rules.specs.declared.BareAck.{BareAck}
 use Rattle.rules.specs.declared.Sender.{Sender}
 use Rattle.rules.specs.declared.SenderDone.{SenderDone}

@@ -1,5 +1,5 @@
 // The sender's events on a sender that is not malformed, by value, and the test of whether it is. The work is in `lent`.
-ghost use Rattle.core.specs.Prelude.{◌≡◌, ◌-◌, ◌≤◌};
+ghost use Rattle.std.specs.Prelude.{◌≡◌, ◌-◌, ◌≤◌};
 ghost use Rattle.rules.specs.Numbers.{wrapped};
 ghost use Rattle.rules.specs.Parts.{fresh_sender};
 ghost use Rattle.rules.specs.Malformed.{all_from, empty_slot, empty_ahead, formed_sender};

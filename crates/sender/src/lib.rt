@@ -2,7 +2,7 @@
 // it was.
 #![tactic(auto)]
 
-ghost use Rattle.core.specs.Prelude.{◌≡◌};
+ghost use Rattle.std.specs.Prelude.{◌≡◌};
 ghost use Rattle.rules.specs.Numbers.{wrapped};
 ghost use Rattle.rules.specs.Parts.{fresh_sender};
 ghost use Rattle.rules.specs.Malformed.{malformed_sender};

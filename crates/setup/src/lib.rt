@@ -1,7 +1,7 @@
 // The setup: when its eight numbers are admitted.
 #![tactic(auto)]
 
-ghost use Rattle.core.specs.Prelude.{◌≡◌, ◌≤◌};
+ghost use Rattle.std.specs.Prelude.{◌≡◌, ◌≤◌};
 ghost use Rattle.rules.specs.Setups.{is_window, in_limits, in_ranges, admitted, same_setup, zero_setup};
 
 use rules::Setup;

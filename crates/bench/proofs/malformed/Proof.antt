@@ -1,5 +1,5 @@
 -- `malformed` meets its contract: the parts are tested only where the setup is admitted and is the one setup of all four.
-use Rattle.core.specs.Prelude.{◌≡◌, true}
+use Rattle.std.specs.Prelude.{◌≡◌, true}
 use mathlib.Core.Path.{sym, ◌∙◌}
 use borrow.Author.Tests.{not-true, not-false}
 use Rattle.rules.specs.Setups.{◌also◌, admitted}

@@ -1,7 +1,7 @@
 -- `add` meets its contract: each return is one case of the rule, and a channel that is not malformed is fit for the work.
 use borrow.Author.Rules.{rules}
 use borrow.Author.Tests.{not-true, not-false}
-use Rattle.core.specs.Prelude.{◌≡◌, false}
+use Rattle.std.specs.Prelude.{◌≡◌, false}
 use mathlib.Core.Path.{sym, ◌∙◌}
 use Rattle.rules.specs.Numbers.{wrapped}
 use Rattle.rules.specs.Malformed.{malformed_data_channel}

@@ -1,6 +1,6 @@
 -- `write` meets its contract: the first line, and then the rest where the run goes on, as long as lines fit.
 use native.Mathlib.Omega.{arith}
-use Rattle.core.specs.Prelude.{◌≡◌}
+use Rattle.std.specs.Prelude.{◌≡◌}
 use mathlib.Core.Path.{sym, ◌∙◌}
 use lib.Seq.{length-take-le}
 use Rattle.writer.proofs.Row.{put_start, put_within}

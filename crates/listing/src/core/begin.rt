@@ -1,5 +1,5 @@
 // The setup lines, and the bench that they ask for.
-ghost use Rattle.core.specs.Prelude.{◌≡◌, ◌≤◌, length};
+ghost use Rattle.std.specs.Prelude.{◌≡◌, ◌≤◌, length};
 ghost use Rattle.rules.specs.Operations.{bench_done};
 ghost use Rattle.listing.specs.Listing.{setup_of, in_fields};
 ghost use Rattle.listing.specs.Run.{SetupRead, opened, over};

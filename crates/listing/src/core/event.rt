@@ -1,5 +1,5 @@
 // The event of a line, run on the bench.
-ghost use Rattle.core.specs.Prelude.{◌≡◌, length};
+ghost use Rattle.std.specs.Prelude.{◌≡◌, length};
 ghost use Rattle.listing.specs.Run.{Applied};
 
 use reader::Event;

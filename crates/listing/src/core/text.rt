@@ -1,5 +1,5 @@
 // The lines of a listing that no event makes.
-ghost use Rattle.core.specs.Prelude.{◌+◌, ◌≤◌, length};
+ghost use Rattle.std.specs.Prelude.{◌+◌, ◌≤◌, length};
 ghost use Rattle.writer.specs.Row.{Put};
 ghost use Rattle.listing.specs.Listing.{word_line, bad_line, setup_line};
 

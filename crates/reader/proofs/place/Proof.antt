@@ -1,7 +1,7 @@
 -- `place` meets its contract: the key's place among all words is its place, from n on, among those that start at `at`.
 use borrow.Author.Rules.{rules}
 use native.Mathlib.Omega.{arith}
-use Rattle.core.specs.Prelude.{◌≡◌, ◌+◌, ◌-◌, ◌≤◌, length, drop}
+use Rattle.std.specs.Prelude.{◌≡◌, ◌+◌, ◌-◌, ◌≤◌, length, drop}
 use mathlib.Core.Path.{refl, sym, ◌∙◌}
 use Rattle.reader.specs.Cuts.{split}
 use Rattle.reader.specs.Lines.{place_of}

@@ -1,6 +1,6 @@
 -- `read_event` meets its contract: the table's words are the event keys.
 use borrow.Author.Rules.{rules}
-use Rattle.core.specs.Prelude.{◌≡◌}
+use Rattle.std.specs.Prelude.{◌≡◌}
 use mathlib.Core.Path.{sym, ◌∙◌}
 use Rattle.reader.proofs.Lines.{events_table, line_bad, line_field}
 use Rattle.reader.proofs.read_event.Statement.{statement}

@@ -1,6 +1,6 @@
 -- `read_field` meets its contract: each return is one case of the definition, with the first `=` at e.
 use borrow.Author.Rules.{rules}
-use Rattle.core.specs.Prelude.{◌≡◌}
+use Rattle.std.specs.Prelude.{◌≡◌}
 use mathlib.Core.Path.{sym, ◌∙◌}
 use lib.Seq.{length-take-le}
 use Rattle.reader.specs.Cuts.{split}

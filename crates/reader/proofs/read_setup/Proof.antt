@@ -1,6 +1,6 @@
 -- `read_setup` meets its contract: the table's words are the setup keys.
 use borrow.Author.Rules.{rules}
-use Rattle.core.specs.Prelude.{◌≡◌}
+use Rattle.std.specs.Prelude.{◌≡◌}
 use mathlib.Core.Path.{sym, ◌∙◌}
 use Rattle.reader.proofs.Lines.{setup_table, setup_bad, setup_right, setup_other}
 use Rattle.reader.proofs.read_setup.Statement.{statement}

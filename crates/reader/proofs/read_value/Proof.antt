@@ -2,7 +2,7 @@
 -- past 2^64 makes the value too large, whatever follows.
 use borrow.Author.Rules.{rules}
 use native.Mathlib.Omega.{arith}
-use Rattle.core.specs.Prelude.{◌≡◌, ◌-◌, ◌^◌, ◌<◌, ◌≤◌, length, drop}
+use Rattle.std.specs.Prelude.{◌≡◌, ◌-◌, ◌^◌, ◌<◌, ◌≤◌, length, drop}
 use mathlib.Core.Path.{sym, ◌∙◌}
 use Rattle.reader.specs.Values.{value_of, value_on}
 use Rattle.reader.proofs.Values.{value_none, value_long, value_begins, value_ends, value_low, value_high, value_digit, value_large}

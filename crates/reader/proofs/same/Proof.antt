@@ -1,7 +1,7 @@
 -- `same` meets its contract: of two texts of one length, what is left of both decides, as the bytes that were passed are alike.
 use borrow.Author.Rules.{rules}
 use native.Mathlib.Omega.{arith}
-use Rattle.core.specs.Prelude.{◌≡◌, ◌-◌, ◌≤◌, length, drop}
+use Rattle.std.specs.Prelude.{◌≡◌, ◌-◌, ◌≤◌, length, drop}
 use mathlib.Core.Path.{sym, ◌∙◌}
 use Rattle.reader.specs.Lines.{same}
 use Rattle.reader.proofs.Lines as laws

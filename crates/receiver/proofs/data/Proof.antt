@@ -1,6 +1,6 @@
 -- `data` meets its contract: the three refusals come first, in their order, and leave the row; what passes them has what the
 -- work asks for.
-use Rattle.core.specs.Prelude.{◌≡◌, true, false}
+use Rattle.std.specs.Prelude.{◌≡◌, true, false}
 use mathlib.Core.Path.{refl, sym, ◌∙◌}
 use borrow.Author.Tests.{not-true, not-false, lt-ltb, le-ltb}
 use Rattle.rules.specs.Numbers.{wrapped}

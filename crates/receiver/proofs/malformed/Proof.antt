@@ -1,5 +1,5 @@
 -- `malformed` meets its contract: a setup that is not admitted makes it so, and else the test of the rest.
-use Rattle.core.specs.Prelude.{◌≡◌, true}
+use Rattle.std.specs.Prelude.{◌≡◌, true}
 use mathlib.Core.Path.{sym, ◌∙◌}
 use borrow.Author.Tests.{not-true, not-false}
 use Rattle.rules.specs.Setups.{◌also◌, admitted}

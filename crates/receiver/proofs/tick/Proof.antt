@@ -1,5 +1,5 @@
 -- `tick` meets its contract: a receiver that is not malformed has what the work asks for.
-use Rattle.core.specs.Prelude.{◌≡◌, false}
+use Rattle.std.specs.Prelude.{◌≡◌, false}
 use mathlib.Core.Path.{sym, ◌∙◌}
 use Rattle.rules.specs.Numbers.{wrapped}
 use Rattle.rules.specs.Malformed.{malformed_receiver}

@@ -1,6 +1,6 @@
 // The receiver's work: its numbers by value, as a head, its slots lent, and the caller's row. A run that keeps the slots in one
 // place calls this.
-ghost use Rattle.core.specs.Prelude.{◌≡◌, ℕ, ◌^◌, ◌≤◌, [], length};
+ghost use Rattle.std.specs.Prelude.{◌≡◌, ℕ, ◌^◌, ◌≤◌, [], length};
 ghost use Rattle.std.specs.Int.{◌∣◌};
 ghost use Rattle.rules.specs.Numbers.{wrapped};
 ghost use Rattle.rules.specs.Fit.{FitReceiver, FitData};

@@ -1,7 +1,7 @@
 -- `write_listing` is safe and ends: as long as there is more, a row has room for a line, so each turn takes a line of the script.
 use borrow.Author.Rules.{rules}
 use native.Mathlib.Omega.{arith}
-use Rattle.core.specs.Prelude.{◌≡◌, suc, ◌-◌, true, cond, length}
+use Rattle.std.specs.Prelude.{◌≡◌, suc, ◌-◌, true, cond, length}
 use mathlib.Core.Path.{◌∙◌, sym}
 use lib.Seq.{length-take-le}
 use Rattle.listing.specs.Run.{Ready}

@@ -1,5 +1,5 @@
 // The sender's work: its numbers by value, as a head, and its slots lent. A run that keeps the slots in one place calls this.
-ghost use Rattle.core.specs.Prelude.{◌≡◌, ◌≤◌, max, []};
+ghost use Rattle.std.specs.Prelude.{◌≡◌, ◌≤◌, max, []};
 ghost use Rattle.rules.specs.Numbers.{wrapped};
 ghost use Rattle.rules.specs.Fit.{FitSender, FitAck};
 ghost use Rattle.rules.specs.Events.{accepting, sending, freed, heard, hearing, ticked_sender};

@@ -2,7 +2,7 @@
 use borrow.Author.Rules.{rules}
 use mathlib.Core.Path.{ap, ◌∙◌}
 use mathlib.Core.Logic.{⊎_elim}
-use Rattle.core.specs.Prelude.{◌-◌}
+use Rattle.std.specs.Prelude.{◌-◌}
 use Rattle.rules.specs.Parts.{ack_channel, new_ack}
 use Rattle.rules.proofs.Channels.{length_packets}
 use Rattle.rules.proofs.Turns.{Ticking, ticking_start, ticking_kept, ticking_gone, ticking_end}

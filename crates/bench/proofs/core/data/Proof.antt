@@ -1,5 +1,5 @@
 -- `data` meets its contract: the packet is taken out of the channel, and the event is the receiver's, which has the bench's setup.
-use Rattle.core.specs.Prelude.{◌≡◌, ◌≤◌, length}
+use Rattle.std.specs.Prelude.{◌≡◌, ◌≤◌, length}
 use mathlib.Core.Path.{◌∙◌, ap, sym, subst}
 use borrow.Author.Tests.{leb-false, lt-ltb, le-ltb}
 use Rattle.rules.specs.declared.Setup.{Setup}

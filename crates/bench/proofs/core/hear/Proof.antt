@@ -1,5 +1,5 @@
 -- `hear` meets its contract: the packet is taken out of the channel, and the event is the sender's.
-use Rattle.core.specs.Prelude.{◌≡◌}
+use Rattle.std.specs.Prelude.{◌≡◌}
 use mathlib.Core.Path.{ap, sym, subst}
 use borrow.Author.Tests.{leb-false}
 use Rattle.rules.specs.declared.AckChannelTaken.{AckChannelTaken}

@@ -1,5 +1,5 @@
 -- `parts_formed` meets its contract: each part is tested by its own setup, which is the bench's.
-use Rattle.core.specs.Prelude.{◌≡◌}
+use Rattle.std.specs.Prelude.{◌≡◌}
 use mathlib.Core.Path.{◌∙◌, ap, sym, subst}
 use Rattle.rules.specs.declared.Setup.{Setup}
 use Rattle.rules.specs.Numbers.{wrapped}

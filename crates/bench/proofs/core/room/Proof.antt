@@ -1,5 +1,5 @@
 -- `room` meets its contract: the event is the receiver's, which has the bench's setup.
-use Rattle.core.specs.Prelude.{◌≡◌}
+use Rattle.std.specs.Prelude.{◌≡◌}
 use mathlib.Core.Path.{◌∙◌, ap}
 use Rattle.rules.specs.declared.Setup.{Setup}
 use Rattle.rules.specs.Events.{opening, act}

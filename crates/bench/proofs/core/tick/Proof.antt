@@ -1,5 +1,5 @@
 -- `tick` meets its contract: each part ticks, and each has the bench's setup.
-use Rattle.core.specs.Prelude.{◌≡◌}
+use Rattle.std.specs.Prelude.{◌≡◌}
 use mathlib.Core.Path.{◌∙◌, ap}
 use Rattle.rules.specs.declared.Setup.{Setup}
 use Rattle.rules.specs.Numbers.{wrapped}

@@ -1,7 +1,7 @@
 -- `gap_closed` meets its contract. The loop's invariant: the places before i are the result's, and those from i on are as they were.
 use borrow.Author.Rules.{rules}
 use mathlib.Core.Path.{ap, ◌∙◌}
-use Rattle.core.specs.Prelude.{◌-◌}
+use Rattle.std.specs.Prelude.{◌-◌}
 use native.Mathlib.Omega.{arith}
 use Rattle.rules.specs.Parts.{new_data, no_data}
 use Rattle.rules.proofs.Turns.{Closing, closing_start, closing_turn, closing_end}

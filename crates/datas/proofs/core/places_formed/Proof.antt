@@ -1,6 +1,6 @@
 -- `places_formed` meets its contract. The loop's invariant: the test of every place is the test of the places from i on.
 use borrow.Author.Rules.{rules}
-use Rattle.core.specs.Prelude.{◌-◌}
+use Rattle.std.specs.Prelude.{◌-◌}
 use native.Mathlib.Omega.{arith}
 use Rattle.rules.specs.Numbers.{wrapped}
 use Rattle.rules.specs.Parts.{data_channel}

@@ -1,6 +1,6 @@
 -- `first_line` meets its contract: each return is one case of the first line.
 use native.Mathlib.Omega.{arith}
-use Rattle.core.specs.Prelude.{◌≡◌}
+use Rattle.std.specs.Prelude.{◌≡◌}
 use mathlib.Core.Path.{ap, sym, ◌∙◌}
 use Rattle.rules.specs.declared.BenchDone.{BenchDone}
 use Rattle.listing.specs.Listing.{bad_input, setup_of}

@@ -1,6 +1,6 @@
 -- `next_line` meets its contract: each return is one case of the step.
 use native.Mathlib.Omega.{arith}
-use Rattle.core.specs.Prelude.{◌≡◌}
+use Rattle.std.specs.Prelude.{◌≡◌}
 use mathlib.Core.Path.{ap, sym, ◌∙◌}
 use lib.Seq.{length-take-le}
 use Rattle.rules.specs.declared.BenchDone.{BenchDone}

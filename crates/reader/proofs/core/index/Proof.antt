@@ -1,7 +1,7 @@
 -- `index` meets its contract: the first b from `from` on is the first from i on, as no byte that was passed is one.
 use borrow.Author.Rules.{rules}
 use native.Mathlib.Omega.{arith}
-use Rattle.core.specs.Prelude.{◌≡◌, ◌+◌, ◌-◌, ◌≤◌, length, drop}
+use Rattle.std.specs.Prelude.{◌≡◌, ◌+◌, ◌-◌, ◌≤◌, length, drop}
 use mathlib.Core.Path.{sym, ◌∙◌}
 use Rattle.reader.specs.Cuts.{index_of}
 use Rattle.reader.proofs.Cuts.{index_end, index_found, index_passed}

@@ -1,6 +1,6 @@
 -- `ack` meets its contract: an acknowledgement is made of the head alone.
 use mathlib.Core.Path.{◌∙◌, ap}
-use Rattle.core.specs.Prelude.{[]}
+use Rattle.std.specs.Prelude.{[]}
 use Rattle.rules.specs.Events.{ack_of}
 use Rattle.receiver.specs.declared.core.ReceiverHead.{ReceiverHead}
 use Rattle.receiver.specs.Head.{receiver_of}

@@ -1,6 +1,6 @@
 -- `empty_above` meets its contract. The loop's invariant: the slots from i on give the whole answer.
 -- The measure is how many are left.
-use Rattle.core.specs.Prelude.{◌≡◌, ◌-◌}
+use Rattle.std.specs.Prelude.{◌≡◌, ◌-◌}
 use mathlib.Core.Path.{refl, sym, ◌∙◌}
 use native.Mathlib.Omega.{arith}
 use borrow.Author.Tests.{eq-eqb, ne_eqb}

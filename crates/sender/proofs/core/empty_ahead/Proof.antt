@@ -1,6 +1,6 @@
 -- `empty_ahead` meets its contract. The loop's invariant: the numbers from d on give the whole answer.
 -- The measure is how many are left.
-use Rattle.core.specs.Prelude.{◌≡◌, ◌-◌}
+use Rattle.std.specs.Prelude.{◌≡◌, ◌-◌}
 use mathlib.Core.Path.{refl, sym, ◌∙◌}
 use native.Mathlib.Omega.{arith}
 use borrow.Author.Tests.{eq-eqb, ne_eqb}

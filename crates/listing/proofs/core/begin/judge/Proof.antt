@@ -1,5 +1,5 @@
 -- `judge` meets its contract: values that fit their fields are the setup that `fresh` judges; others are refused with 1.
-use Rattle.core.specs.Prelude.{◌≡◌}
+use Rattle.std.specs.Prelude.{◌≡◌}
 use mathlib.Core.Path.{ap, sym, ◌∙◌}
 use Rattle.listing.specs.Listing.{setup_of}
 use Rattle.listing.proofs.Setups.{fields_fit, opened_fits, opened_large}

@@ -1,6 +1,6 @@
 -- `deliver` meets its contract: after k turns k units stand in the row, and the rule gives the rest from nxt on. A marked slot lies
 -- less than ring - k ahead, so each turn that goes on finds k below ring, and the measure is ring - k.
-use Rattle.core.specs.Prelude.{◌≡◌, ◌-◌, ◌%◌, ◌<◌, true}
+use Rattle.std.specs.Prelude.{◌≡◌, ◌-◌, ◌%◌, ◌<◌, true}
 use mathlib.Core.Path.{ap, sym, ◌∙◌}
 use native.Mathlib.Omega.{arith}
 use borrow.Author.Tests.{not-true, not-false}

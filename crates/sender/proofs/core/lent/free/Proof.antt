@@ -1,6 +1,6 @@
 -- `free` meets its contract. The loop's invariant: what is left to clear, from q on, gives the whole answer.
 -- The measure is how many slots are left.
-use Rattle.core.specs.Prelude.{◌≡◌}
+use Rattle.std.specs.Prelude.{◌≡◌}
 use mathlib.Core.Path.{refl, sym, ◌∙◌}
 use native.Mathlib.Omega.{arith}
 use Rattle.rules.specs.Events.{freed}

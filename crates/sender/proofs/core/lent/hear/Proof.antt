@@ -1,6 +1,6 @@
 -- `hear` meets its contract: each refusal is one law of the rule's test, and past them the slots are `free`'s and the head is
 -- `widened`'s or `moved_on`'s.
-use Rattle.core.specs.Prelude.{◌≡◌, ℕ}
+use Rattle.std.specs.Prelude.{◌≡◌, ℕ}
 use mathlib.Core.Path.{refl}
 use native.Mathlib.Omega.{arith}
 use borrow.Author.Rules.{rules}
