@@ -231,7 +231,7 @@ fn packet_formed(s: Setup, p: AckPacket) -> bool
     requires { FitSetup s }
     ensures { result ≡ formed_ack (wrapped s) s p }
 {
-    numbers::core::packet::ack_in_range(s, bare(p)) & (p.age <= s.life)
+    numbers::inner::packet::ack_in_range(s, bare(p)) & (p.age <= s.life)
 }
 
 fn place_empty(p: AckPacket) -> bool

@@ -49,7 +49,7 @@ pub fn add(c: AckChannel, p: BareAck) -> AckChannelDone
             channel: c,
         };
     }
-    if !numbers::core::packet::ack_in_range(c.setup, p) {
+    if !numbers::inner::packet::ack_in_range(c.setup, p) {
         return AckChannelDone {
             answer: 3,
             channel: c,

@@ -231,7 +231,7 @@ fn packet_formed(s: Setup, p: DataPacket) -> bool
     requires { FitSetup s }
     ensures { result ≡ formed_data (wrapped s) s p }
 {
-    numbers::core::packet::data_in_range(s, bare(p)) & (p.age <= s.life)
+    numbers::inner::packet::data_in_range(s, bare(p)) & (p.age <= s.life)
 }
 
 fn place_empty(p: DataPacket) -> bool

@@ -49,7 +49,7 @@ pub fn add(c: DataChannel, p: BareData) -> DataChannelDone
             channel: c,
         };
     }
-    if !numbers::core::packet::data_in_range(c.setup, p) {
+    if !numbers::inner::packet::data_in_range(c.setup, p) {
         return DataChannelDone {
             answer: 3,
             channel: c,

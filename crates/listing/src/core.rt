@@ -69,7 +69,7 @@ pub fn next_line(src: &[u8], run: Run, out: &mut [u8]) -> Step
     ensures { Stepped src.now run out.old out.new result }
 {
     let at = run.at;
-    let e = reader::core::index(src, at, b'\n');
+    let e = reader::inner::index(src, at, b'\n');
     if e == src.len() {
         let n = text::put_bad(out, run.line);
         return Step {

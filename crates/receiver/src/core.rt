@@ -135,10 +135,10 @@ pub fn formed(r: Receiver) -> bool
     ensures { result ≡ formed_receiver (wrapped r.setup) r.setup r }
 {
     let slots = r.slots;
-    numbers::core::in_range(r.nxt, r.setup.seqbits)
+    numbers::inner::in_range(r.nxt, r.setup.seqbits)
         & (r.window <= r.setup.window)
-        & numbers::core::in_range(r.clock, r.setup.clockbits)
-        & numbers::core::recent::formed(r.setup, r.recent)
+        & numbers::inner::in_range(r.clock, r.setup.clockbits)
+        & numbers::inner::recent::formed(r.setup, r.recent)
         & right_ahead(slots, r.marks, r.nxt, r.window, r.setup.window)
         & unused_above(slots, r.marks, r.setup.window)
 }
@@ -148,8 +148,8 @@ fn right_at(slots: [u64; 64], marks: u64, nxt: u32, window: u32, ring: u32, d: u
     requires { (1 ≤ ring) × (ring ≤ 64) }
     ensures { result ≡ right_ahead ring slots marks nxt window d }
 {
-    let at = numbers::core::slot_ahead(nxt, d, ring);
-    if numbers::core::marks::is_marked(marks, at) {
+    let at = numbers::inner::slot_ahead(nxt, d, ring);
+    if numbers::inner::marks::is_marked(marks, at) {
         (1 <= d) & (d < window)
     } else {
         let i = at as usize;
@@ -177,7 +177,7 @@ fn unused_at(slots: [u64; 64], marks: u64, i: u32) -> bool
     ensures { result ≡ unused slots marks i }
 {
     let at = i as usize;
-    (slots[at] == 0) & !numbers::core::marks::is_marked(marks, i)
+    (slots[at] == 0) & !numbers::inner::marks::is_marked(marks, i)
 }
 
 // The slots from RW up are neither marked nor in use.

@@ -60,7 +60,7 @@ pub fn data(r: Receiver, p: BareData, row: &mut [u64]) -> ReceiverTook
             receiver: r,
         };
     }
-    if !numbers::core::packet::data_in_range(r.setup, p) {
+    if !numbers::inner::packet::data_in_range(r.setup, p) {
         return ReceiverTook {
             answer: 3,
             count: 0,

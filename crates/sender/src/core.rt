@@ -143,12 +143,12 @@ pub fn formed(s: Sender) -> bool
     ensures { result ≡ formed_sender (wrapped s.setup) s.setup s }
 {
     let slots = s.slots;
-    numbers::core::in_range(s.una, s.setup.seqbits)
+    numbers::inner::in_range(s.una, s.setup.seqbits)
         & (s.outstanding <= s.setup.window)
         & (s.granted <= s.setup.window)
         & (s.accepted <= s.setup.rate)
-        & numbers::core::in_range(s.clock, s.setup.clockbits)
-        & numbers::core::recent::formed(s.setup, s.recent)
+        & numbers::inner::in_range(s.clock, s.setup.clockbits)
+        & numbers::inner::recent::formed(s.setup, s.recent)
         & empty_ahead(slots, s.una, s.outstanding, s.setup.window)
         & empty_above(slots, s.setup.window)
 }
@@ -160,7 +160,7 @@ fn empty_ahead(slots: [u64; 64], q: u32, from: u32, window: u32) -> bool
 {
     let mut d = from;
     while d < window {
-        let i = numbers::core::slot_ahead(q, d, window) as usize;
+        let i = numbers::inner::slot_ahead(q, d, window) as usize;
         if slots[i] != 0 {
             return false;
         }

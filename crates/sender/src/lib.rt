@@ -79,7 +79,7 @@ pub fn hear(s: Sender, p: BareAck) -> SenderDone
             sender: s,
         };
     }
-    if !numbers::core::packet::ack_in_range(s.setup, p) {
+    if !numbers::inner::packet::ack_in_range(s.setup, p) {
         return SenderDone {
             answer: 3,
             sender: s,

@@ -66,8 +66,8 @@ fn within_ranges(s: Setup) -> bool
     requires { (s.seqbits ≤ 32) × (s.clockbits ≤ 32) }
     ensures { result ≡ in_ranges s }
 {
-    let ns = numbers::core::size(s.seqbits);
-    let nc = numbers::core::size(s.clockbits);
+    let ns = numbers::inner::size(s.seqbits);
+    let nc = numbers::inner::size(s.clockbits);
     ((s.seq as u64) < ns)
         & ((s.sclock as u64) < nc)
         & ((s.rclock as u64) < nc)

@@ -24,7 +24,7 @@ pub fn read_lines(src: &[u8]) -> SetupLines
     let mut at = 0;
     let mut i = 0;
     while i < 8 {
-        let e = reader::core::index(src, at, b'\n');
+        let e = reader::inner::index(src, at, b'\n');
         if e == src.len() {
             return SetupLines {
                 bad: i as u64 + 1,

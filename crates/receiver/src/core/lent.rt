@@ -30,10 +30,10 @@ pub fn data(h: ReceiverHead, slots: &mut [u64; 64], p: BareData, row: &mut [u64]
             head: h,
         };
     }
-    let at = numbers::core::slot(p.seq, h.setup.window);
+    let at = numbers::inner::slot(p.seq, h.setup.window);
     let i = at as usize;
     slots[i] = p.unit;
-    let marks = numbers::core::marks::with_mark(h.marks, at);
+    let marks = numbers::inner::marks::with_mark(h.marks, at);
     if p.seq != h.nxt {
         let mut next = h;
         next.marks = marks;
@@ -84,8 +84,8 @@ pub fn tick(h: ReceiverHead) -> ReceiverHead
     ensures { result ≡ head_of (ticked_receiver (wrapped h.setup) h.setup (receiver_of h [])) }
 {
     let mut next = h;
-    next.clock = numbers::core::moved(h.clock, 1, h.setup.clockbits);
-    next.recent = numbers::core::recent::aged(h.setup.life, h.recent);
+    next.clock = numbers::inner::moved(h.clock, 1, h.setup.clockbits);
+    next.recent = numbers::inner::recent::aged(h.setup.life, h.recent);
     next
 }
 
@@ -94,18 +94,18 @@ fn verdict(h: ReceiverHead, p: BareData) -> u32
     requires { FitReceiver (receiver_of h []) × FitData h.setup p }
     ensures { result ≡ may_arrive (wrapped h.setup) h.setup p (receiver_of h []) (λ (n : ℕ). n) (λ (o : ℕ). 0) }
 {
-    if !numbers::core::recent::passes(h.setup, h.recent, p.stamp) {
+    if !numbers::inner::recent::passes(h.setup, h.recent, p.stamp) {
         return 9;
     }
-    let o = numbers::core::apart(p.seq, h.nxt, h.setup.seqbits);
+    let o = numbers::inner::apart(p.seq, h.nxt, h.setup.seqbits);
     if h.setup.window <= o {
         return 10;
     }
     if h.window <= o {
         return 11;
     }
-    let at = numbers::core::slot(p.seq, h.setup.window);
-    if numbers::core::marks::is_marked(h.marks, at) {
+    let at = numbers::inner::slot(p.seq, h.setup.window);
+    if numbers::inner::marks::is_marked(h.marks, at) {
         return 12;
     }
     0
@@ -127,15 +127,15 @@ fn deliver(
     let mut marks = marked;
     let mut k = 0;
     let count = loop {
-        let at = numbers::core::slot(nxt, ring);
-        if !numbers::core::marks::is_marked(marks, at) {
+        let at = numbers::inner::slot(nxt, ring);
+        if !numbers::inner::marks::is_marked(marks, at) {
             break k;
         }
         let i = at as usize;
         row[k] = slots[i];
         slots[i] = 0;
-        marks = numbers::core::marks::without_mark(marks, at);
-        nxt = numbers::core::moved(nxt, 1, seqbits);
+        marks = numbers::inner::marks::without_mark(marks, at);
+        nxt = numbers::inner::moved(nxt, 1, seqbits);
         k += 1;
     };
     Delivered { count, nxt, marks }

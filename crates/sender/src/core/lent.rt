@@ -18,8 +18,8 @@ pub fn accept(h: SenderHead, slots: &mut [u64; 64], unit: u64) -> HeadDone
     if h.setup.rate <= h.accepted {
         return HeadDone { answer: 7, head: h };
     }
-    let q = numbers::core::moved(h.una, h.outstanding, h.setup.seqbits);
-    let at = numbers::core::slot(q, h.setup.window) as usize;
+    let q = numbers::inner::moved(h.una, h.outstanding, h.setup.seqbits);
+    let at = numbers::inner::slot(q, h.setup.window) as usize;
     slots[at] = unit;
     let mut next = h;
     next.outstanding = h.outstanding + 1;
@@ -44,8 +44,8 @@ pub fn send(h: SenderHead, slots: &[u64; 64], k: u64) -> HeadSent
             },
         };
     }
-    let q = numbers::core::moved(h.una, k as u32, h.setup.seqbits);
-    let at = numbers::core::slot(q, h.setup.window) as usize;
+    let q = numbers::inner::moved(h.una, k as u32, h.setup.seqbits);
+    let at = numbers::inner::slot(q, h.setup.window) as usize;
     HeadSent {
         answer: 0,
         packet: BareData {
@@ -60,10 +60,10 @@ pub fn hear(h: SenderHead, slots: &mut [u64; 64], p: BareAck) -> HeadDone
     requires { FitSender (sender_of h slots.old) × FitAck h.setup p }
     ensures { Leaves (hearing (wrapped h.setup) h.setup p (sender_of h slots.old)) result slots.new }
 {
-    if !numbers::core::recent::passes(h.setup, h.recent, p.stamp) {
+    if !numbers::inner::recent::passes(h.setup, h.recent, p.stamp) {
         return HeadDone { answer: 9, head: h };
     }
-    let o = numbers::core::apart(p.ack, h.una, h.setup.seqbits);
+    let o = numbers::inner::apart(p.ack, h.una, h.setup.seqbits);
     if h.setup.window < o {
         return HeadDone {
             answer: 10,
@@ -95,8 +95,8 @@ pub fn tick(h: SenderHead) -> SenderHead
 {
     let mut next = h;
     next.accepted = 0;
-    next.clock = numbers::core::moved(h.clock, 1, h.setup.clockbits);
-    next.recent = numbers::core::recent::aged(h.setup.life, h.recent);
+    next.clock = numbers::inner::moved(h.clock, 1, h.setup.clockbits);
+    next.recent = numbers::inner::recent::aged(h.setup.life, h.recent);
     next
 }
 
@@ -127,7 +127,7 @@ fn moved_on(h: SenderHead, p: BareAck, o: u32) -> SenderHead
     ensures { result ≡ head_of (heard (wrapped h.setup) h.setup p (sender_of h []) o) }
 {
     let mut next = h;
-    next.una = numbers::core::moved(h.una, o, h.setup.seqbits);
+    next.una = numbers::inner::moved(h.una, o, h.setup.seqbits);
     next.outstanding = h.outstanding - o;
     next.granted = p.window;
     let recent = Recent {
@@ -147,9 +147,9 @@ fn free(slots: &mut [u64; 64], una: u32, o: u32, seqbits: u32, window: u32)
     let mut q = una;
     let mut left = o;
     while 0 < left {
-        let at = numbers::core::slot(q, window) as usize;
+        let at = numbers::inner::slot(q, window) as usize;
         slots[at] = 0;
-        q = numbers::core::moved(q, 1, seqbits);
+        q = numbers::inner::moved(q, 1, seqbits);
         left -= 1;
     }
 }

@@ -1,7 +1,7 @@
 -- `formed` meets its contract: each return is one case of the rule.
 use Rattle.rules.specs.Setups.{◌also◌}
 use Rattle.rules.specs.Malformed.{formed_recent}
-use Rattle.numbers.proofs.core.recent.formed.Goals as goal
+use Rattle.numbers.proofs.inner.recent.formed.Goals as goal
 
 pub returns-then-r : goal.returns-then-r
 unfolding formed_recent ◌also◌

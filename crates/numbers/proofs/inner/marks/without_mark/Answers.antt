@@ -1,7 +1,7 @@
 -- `without_mark` meets its contract: the mask is the slot's power of two.
 use Rattle.rules.specs.Marks.{unmark}
 use Rattle.numbers.proofs.Laws.{bit_at}
-use Rattle.numbers.proofs.core.marks.without_mark.Goals as goal
+use Rattle.numbers.proofs.inner.marks.without_mark.Goals as goal
 
 pub returns : goal.returns
 unfolding unmark

@@ -1,7 +1,7 @@
 -- `apart` meets its contract: 32 bits are a whole number of turns of the range, so the remainder forgets the wrap.
 use Rattle.std.proofs.Common.{ℕ, ◌+◌, ◌-◌, ◌%◌, ◌^◌, sym, ap, ◌∙◌, arith}
 use Rattle.numbers.proofs.Laws.{wrap_apart, divides}
-use Rattle.numbers.proofs.core.apart.Goals as goal
+use Rattle.numbers.proofs.inner.apart.Goals as goal
 
 pub returns : goal.returns
 returns c =

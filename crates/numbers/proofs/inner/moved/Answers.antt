@@ -1,7 +1,7 @@
 -- `moved` meets its contract: 32 bits are a whole number of turns of the range, so the remainder forgets the wrap.
 use Rattle.std.proofs.Common.{◌≡◌, ℕ, ◌+◌, ◌-◌, ◌%◌, ◌^◌, ap, ◌∙◌, mod-lt, arith, pow_pos}
 use Rattle.numbers.proofs.Laws.{wrap_moved, divides}
-use Rattle.numbers.proofs.core.moved.Goals as goal
+use Rattle.numbers.proofs.inner.moved.Goals as goal
 
 pub returns : goal.returns
 returns c =

@@ -1,7 +1,7 @@
 -- `data_in_range` meets its contract: the test of a data packet is the definition, field by field.
 use Rattle.rules.specs.Setups.{◌also◌}
 use Rattle.rules.specs.Malformed.{right_data}
-use Rattle.numbers.proofs.core.packet.data_in_range.Goals as goal
+use Rattle.numbers.proofs.inner.packet.data_in_range.Goals as goal
 
 pub returns : goal.returns
 unfolding right_data ◌also◌

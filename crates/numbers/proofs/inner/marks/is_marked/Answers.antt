@@ -3,7 +3,7 @@ use Rattle.std.proofs.Common.{ℕ, ◌/◌, ◌^◌, ap}
 use Rattle.std.specs.Prelude.{nat_eq}
 use Rattle.std.proofs.lemmas.Nat.{and_mask}
 use Rattle.rules.specs.Marks.{marked}
-use Rattle.numbers.proofs.core.marks.is_marked.Goals as goal
+use Rattle.numbers.proofs.inner.marks.is_marked.Goals as goal
 
 pub returns : goal.returns
 unfolding marked
