@@ -1,11 +1,8 @@
 -- Where a piece of a text ends, and what is left after it.
-use Rattle.std.specs.Prelude.{◌≡◌, ℕ, suc, ◌+◌, ◌-◌, ◌<◌, ◌≤◌, Bool, true, false, cond, eqb, List, [], ◌∷◌, length, get_or, take, drop}
-use mathlib.Core.Path.{refl, ◌∙◌}
-use native.Mathlib.Omega.{arith}
-use native.Mathlib.Numerals.{add-one}
-use borrow.Author.Tests.{eq-eqb, ne_eqb}
-use lib.ListN.{length-drop, drop_of_length-le}
-use lib.Seq.{drop-cons, drop-drop, take_all}
+use Rattle.std.specs.Prelude.{◌≡◌, ℕ, suc, ◌+◌, ◌-◌, ◌<◌, ◌≤◌, Bool, true, false, cond, nat_eq, List, [], ◌∷◌, length, get_or, take, drop}
+use Rattle.std.proofs.Common.{refl, ◌∙◌, arith, add-one, eq-eqb, ne_eqb}
+use Rattle.std.proofs.Math.ListN.{length-drop, drop_of_length-le}
+use Rattle.std.proofs.Math.Seq.{drop-cons, drop-drop, take_all}
 use Rattle.reader.specs.Cuts.{index_of, Index, onto, split, is_none}
 
 pub next_byte : (s : List ℕ) (i : ℕ) → i < length s → drop i s ≡ get_or s i 0 ∷ drop (i + 1) s
@@ -37,7 +34,7 @@ by_byte false i n h = omega arith
 pub index_le : (b : ℕ) (t : List ℕ) → index_of b t ≤ length t
 unfolding index_of
 index_le b [] = omega arith
-index_le b (x ∷ t) = by_byte (eqb x b) (index_of b t) (length t) (index_le b t)
+index_le b (x ∷ t) = by_byte (nat_eq x b) (index_of b t) (length t) (index_le b t)
 
 -- the place is there to be found
 pub index_at : (b : ℕ) (s : List ℕ) (at : ℕ) → at ≤ length s → Index b s at (at + index_of b (drop at s))
@@ -55,7 +52,7 @@ split_by b x t false h e = rw (e (omega arith), add-one, add-one (suc (index_of 
 split_first : (b : ℕ) (t : List ℕ) → index_of b t < length t → split b t ≡ take (index_of b t) t ∷ split b (drop (index_of b t + 1) t)
 unfolding index_of split
 split_first b [] h = absurd (omega arith)
-split_first b (x ∷ t) h = split_by b x t (eqb x b) h (split_first b t)
+split_first b (x ∷ t) h = split_by b x t (nat_eq x b) h (split_first b t)
 
 last_by : (b x : ℕ) (t : List ℕ) (q : Bool) → cond q 0 (suc (index_of b t)) ≡ suc (length t)
     → (index_of b t ≡ length t → split b t ≡ t ∷ [])
@@ -66,7 +63,7 @@ last_by b x t false h e = rw (e (omega arith))
 split_last : (b : ℕ) (t : List ℕ) → index_of b t ≡ length t → split b t ≡ t ∷ []
 unfolding index_of split
 split_last b [] h = refl
-split_last b (x ∷ t) h = last_by b x t (eqb x b) h (split_last b t)
+split_last b (x ∷ t) h = last_by b x t (nat_eq x b) h (split_last b t)
 
 -- the same at a place of a text
 module _ (b : ℕ) (s : List ℕ) (at e : ℕ) (i : Index b s at e) where
@@ -91,4 +88,4 @@ some_by false ps qs e = e
 pub split_some : (b : ℕ) (t : List ℕ) → is_none (split b t) ≡ false
 unfolding split
 split_some b [] = refl
-split_some b (x ∷ t) = some_by (eqb x b) (split b t) (onto x (split b t)) (onto_some x (split b t))
+split_some b (x ∷ t) = some_by (nat_eq x b) (split b t) (onto x (split b t)) (onto_some x (split b t))

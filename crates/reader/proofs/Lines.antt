@@ -1,10 +1,8 @@
 -- The cases of comparing a key, finding it in a table, and reading a field.
-use Rattle.std.specs.Prelude.{◌≡◌, ℕ, suc, ◌+◌, ◌-◌, ◌<◌, ◌≤◌, Bool, true, false, cond, eqb, ltb, List, [], ◌∷◌, length, get_or, take, drop}
-use mathlib.Core.Path.{refl, ap}
-use native.Mathlib.Omega.{arith}
-use borrow.Author.Tests.{eq-eqb, ne_eqb, ltb-true, ltb-false}
-use lib.ListN.{length-drop, drop_of_length-le}
-use lib.Seq.{take_all}
+use Rattle.std.specs.Prelude.{◌≡◌, ℕ, suc, ◌+◌, ◌-◌, ◌<◌, ◌≤◌, Bool, true, false, cond, nat_eq, nat_lt, List, [], ◌∷◌, length, get_or, take, drop}
+use Rattle.std.proofs.Common.{refl, ap, arith, eq-eqb, ne_eqb, ltb-true, ltb-false}
+use Rattle.std.proofs.Math.ListN.{length-drop, drop_of_length-le}
+use Rattle.std.proofs.Math.Seq.{take_all}
 use Rattle.reader.specs.declared.Value.TheVariants as ValueCase
 use Rattle.reader.specs.declared.Field.TheVariants as FieldCase
 use Rattle.reader.specs.declared.Line.TheVariants as LineCase
@@ -24,7 +22,7 @@ unfolding same
 same_length [] [] n = absurd (n refl)
 same_length [] (b ∷ y) n = refl
 same_length (a ∷ x) [] n = refl
-same_length (a ∷ x) (b ∷ y) n = else_false (eqb a b) (same_length x y (λ e. n (ap suc e)))
+same_length (a ∷ x) (b ∷ y) n = else_false (nat_eq a b) (same_length x y (λ e. n (ap suc e)))
 
 module _ (a b : List ℕ) (i : ℕ) where
   pub same_end : length a ≤ i → length b ≤ i → same (drop i a) (drop i b) ≡ true
@@ -64,14 +62,14 @@ module _ (k : List ℕ) (n b : ℕ) (s : List ℕ) (at e : ℕ) (i : Index b s a
       → place_of k n (split b (drop at s)) ≡ place_of k (n + 1) (split b (drop (e + 1) s))
   place_miss f h = rw (split_at b s at e i h) (miss k n _ _ f)
 
-  hit_by : (q : Bool) → ltb e (length s) ≡ q → same k (take (e - at) (drop at s)) ≡ true → place_of k n (split b (drop at s)) ≡ n
+  hit_by : (q : Bool) → nat_lt e (length s) ≡ q → same k (take (e - at) (drop at s)) ≡ true → place_of k n (split b (drop at s)) ≡ n
   hit_by true l f = rw (split_at b s at e i (ltb-true _ _ l)) (hit k n _ _ f)
   hit_by false l f =
       let h : e ≡ length s = omega (arith, ltb-false e (length s) l, i.within) in
       rw (split_end b s at e i h) (hit k n (drop at s) [] (rw (last_word h) at f))
 
   pub place_hit : same k (take (e - at) (drop at s)) ≡ true → place_of k n (split b (drop at s)) ≡ n
-  place_hit f = hit_by (ltb e (length s)) refl f
+  place_hit f = hit_by (nat_lt e (length s)) refl f
 
 -- ---- a field: e is the place of the first `=`
 module _ (keys : List (List ℕ)) (l : List ℕ) (e : ℕ) (i : Index 61 l 0 e) where

@@ -1,9 +1,7 @@
 -- The cases of reading a value, digit by digit: the code stops where the number would pass 2^64, the definition at the end.
-use Rattle.std.specs.Prelude.{◌≡◌, ℕ, ◌+◌, ◌-◌, ◌*◌, ◌^◌, ◌<◌, ◌≤◌, Bool, true, false, cond, ltb, List, [], ◌∷◌, length, get_or, drop}
-use mathlib.Core.Path.{refl}
-use native.Mathlib.Omega.{arith}
-use borrow.Author.Tests.{lt-ltb, le-ltb, eq-eqb, ne_eqb}
-use lib.ListN.{drop_of_length-le}
+use Rattle.std.specs.Prelude.{◌≡◌, ℕ, ◌+◌, ◌-◌, ◌*◌, ◌^◌, ◌<◌, ◌≤◌, Bool, true, false, cond, nat_lt, List, [], ◌∷◌, length, get_or, drop}
+use Rattle.std.proofs.Common.{refl, arith, lt-ltb, le-ltb, eq-eqb, ne_eqb}
+use Rattle.std.proofs.Math.ListN.{drop_of_length-le}
 use Rattle.reader.specs.declared.Value.{Value}
 use Rattle.reader.specs.declared.Value.TheVariants as ValueCase
 use Rattle.reader.specs.Values.{value_on, value_of}
@@ -18,7 +16,7 @@ either_bad false false e = e
 pub value_large : (t : List ℕ) (v : ℕ) → 2 ^ 64 ≤ v → value_on v t ≡ ValueCase.Bad
 unfolding value_on
 value_large [] v h = rw (le-ltb v (2 ^ 64) h)
-value_large (b ∷ t) v h = either_bad (ltb b 48) (ltb 57 b) (value_large t (v * 10 + (b - 48)) (omega arith))
+value_large (b ∷ t) v h = either_bad (nat_lt b 48) (nat_lt 57 b) (value_large t (v * 10 + (b - 48)) (omega arith))
 
 module _ (d : List ℕ) where
   pub value_none : length d ≡ 0 → value_of d ≡ ValueCase.Bad

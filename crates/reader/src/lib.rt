@@ -6,7 +6,7 @@ ghost use Rattle.reader.specs.Cuts.{split};
 ghost use Rattle.reader.specs.Values.{value_of};
 ghost use Rattle.reader.specs.Lines.{same, place_of, field_of, only_one, pick, events, line_of, setup_keys, setup_value};
 
-pub mod core;
+pub mod inner;
 
 // What an event line asks for.
 #[derive(Drop)]
@@ -106,7 +106,7 @@ pub fn read_setup(line: &[u8], n: usize) -> Value
 fn read_field(line: &[u8], table: &[u8]) -> Field
     ensures { result ≡ field_of (split 61 table.now) line.now }
 {
-    let e = core::index(line, 0, b'=');
+    let e = inner::index(line, 0, b'=');
     if e == line.len() {
         return Field::Bad;
     }
@@ -129,7 +129,7 @@ fn place(k: &[u8], table: &[u8]) -> usize
     let mut at = 0;
     let mut n: usize = 1;
     loop {
-        let e = core::index(table, at, b'=');
+        let e = inner::index(table, at, b'=');
         if same(k, &table[at..e]) {
             return n;
         }
@@ -159,6 +159,7 @@ fn same(a: &[u8], b: &[u8]) -> bool
 }
 
 // What the event key at place k asks for with the value x.
+#[tactic(auto, unfolding(crate::specs::Lines::pick))]
 fn to_line(k: usize, x: u64) -> Line
     ensures { result ≡ pick 1 k x events }
 {
