@@ -1,11 +1,6 @@
 -- Things written into a row one after another are one thing written.
-use mathlib.Core.Path.{◌≡◌, refl, ap, sym, ◌∙◌}
-use mathlib.Core.List.{List, [], ◌∷◌, ◌++◌, append_assoc}
-use Prim.Native.Nat.{ℕ, ◌+◌, ◌≤◌, ◌<◌}
-use native.Mathlib.Omega.{arith}
-use native.Mathlib.Numerals.{add-one}
-use lib.ListN.{length, take, drop, set, length-append, take-append-drop}
-use lib.Seq.{paste, take-paste, drop-paste, length-paste, take-length, drop-drop, set_split, take-append_seam}
+use Rattle.std.proofs.Common.{◌≡◌, ℕ, ◌+◌, ◌<◌, ◌≤◌, List, [], ◌∷◌, ◌++◌, length, take, drop, set, ap, sym, ◌∙◌, append_assoc, add-one, arith, length-append, take-append-drop, drop-drop}
+use Rattle.std.proofs.Math.Seq.{paste, take-paste, drop-paste, length-paste, take-length, set_split, take-append_seam}
 use Rattle.writer.specs.Row.{put, Put}
 
 module _ (d : List ℕ) (at : ℕ) (s : List ℕ) where

@@ -1,10 +1,5 @@
 -- The units of a line, written one by one: what is left, put after what was written, is the whole.
-use mathlib.Core.Path.{◌≡◌, refl}
-use mathlib.Core.List.{List, [], ◌∷◌, ◌++◌}
-use Prim.Native.Nat.{ℕ, ◌+◌, ◌≤◌, ◌<◌}
-use native.Mathlib.Numerals.{add-one}
-use lib.ListN.{length, get_or, drop, drop_of_length-le}
-use lib.Seq.{drop-cons}
+use Rattle.std.proofs.Common.{◌≡◌, ℕ, ◌+◌, ◌<◌, ◌≤◌, List, [], ◌∷◌, ◌++◌, length, get_or, drop, refl, add-one, drop_of_length-le, drop-cons}
 use Rattle.writer.specs.Decimal.{decimal}
 use Rattle.writer.specs.Lines.{then_units}
 use Rattle.writer.specs.Row.{put, Put}

@@ -1,5 +1,5 @@
 -- What is put into a row determines the row whole, and the place after it: so does each contract of the crate.
-use Rattle.std.specs.Prelude.{◌≡◌, List, ℕ}
+use Rattle.std.specs.Prelude.{◌≡◌, ℕ, List}
 use Rattle.std.proofs.Common.{sym, ◌∙◌}
 use Rattle.writer.specs.Row.{Put}
 

@@ -1,4 +1,4 @@
 // Writing a line of output into a lent row of bytes.
 #![tactic(auto)]
 
-pub mod core;
+pub mod inner;
