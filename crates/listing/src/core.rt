@@ -34,7 +34,7 @@ pub fn first_line(src: &[u8], out: &mut [u8]) -> Step
     ensures { Opened src.now out.old out.new result }
 {
     if 65536 < src.len() {
-        let n = writer::core::put_bytes(out, 0, b"bad input\n");
+        let n = writer::inner::put_bytes(out, 0, b"bad input\n");
         return begin::over(n);
     }
     let s = begin::read_lines(src);
@@ -91,7 +91,7 @@ pub fn next_line(src: &[u8], run: Run, out: &mut [u8]) -> Step
     let b = run.bench;
     let o = event::apply(b, ev, &mut units);
     let k = o.count;
-    let n = writer::core::put_event(out, run.event, o.answer as u64, &units[..k]);
+    let n = writer::inner::put_event(out, run.event, o.answer as u64, &units[..k]);
     let bench = o.bench;
     Step {
         len: n,
@@ -124,7 +124,7 @@ pub fn fill(src: &[u8], run: Run, out: &mut [u8], from: usize) -> Step
                 run: here,
             };
         }
-        at = writer::core::put_bytes(out, at, &line[..n]);
+        at = writer::inner::put_bytes(out, at, &line[..n]);
         let then = s.run;
         if !s.more {
             return Step {

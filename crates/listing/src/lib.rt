@@ -26,7 +26,7 @@ pub fn write(src: &[u8], out: &mut [u8]) -> Written
             whole: false,
         };
     }
-    let at = writer::core::put_bytes(out, 0, &line[..n]);
+    let at = writer::inner::put_bytes(out, 0, &line[..n]);
     if first.more {
         let run = first.run;
         let rest = core::fill(src, run, out, at);

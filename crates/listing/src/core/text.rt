@@ -8,9 +8,9 @@ fn put_word(out: &mut [u8], word: &[u8], n: u64) -> usize
     requires { length word.now + 22 ≤ length out.old }
     ensures { Put out.old out.new 0 (word_line word.now n) result }
 {
-    let a = writer::core::put_bytes(out, 0, word);
-    let b = writer::core::put_spaced(out, a, n);
-    writer::core::put_byte(out, b, b'\n')
+    let a = writer::inner::put_bytes(out, 0, word);
+    let b = writer::inner::put_spaced(out, a, n);
+    writer::inner::put_byte(out, b, b'\n')
 }
 
 pub fn put_bad(out: &mut [u8], line: u64) -> usize
