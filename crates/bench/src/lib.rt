@@ -12,7 +12,7 @@ ghost use Rattle.rules.specs.Operations.{begun, step, bench_done};
 
 use rules::{Bench, BenchDone, Setup};
 
-pub mod core;
+pub mod inner;
 
 // A bench at its start; refused with 1, and all 0, where the setup is not admitted.
 pub fn fresh(s: Setup) -> BenchDone
@@ -22,13 +22,13 @@ pub fn fresh(s: Setup) -> BenchDone
         BenchDone {
             answer: 0,
             count: 0,
-            bench: core::first(s),
+            bench: inner::first(s),
         }
     } else {
         BenchDone {
             answer: 1,
             count: 0,
-            bench: core::first(setup::zero()),
+            bench: inner::first(setup::zero()),
         }
     }
 }
@@ -40,10 +40,10 @@ pub fn malformed(b: Bench) -> bool
     if !setup::admitted(s) {
         return true;
     }
-    if !core::one_setup(b) {
+    if !inner::one_setup(b) {
         return true;
     }
-    !core::parts_formed(b)
+    !inner::parts_formed(b)
 }
 
 fn refused(b: Bench, answer: u32) -> BenchDone
@@ -63,7 +63,7 @@ pub fn accept(b: Bench, unit: u64) -> BenchDone
     if malformed(b) {
         return refused(b, 2);
     }
-    core::accept(b, unit)
+    inner::accept(b, unit)
 }
 
 // The sender sends its k-th outstanding unit, counted from 0: 4 where there is none, 5 where the data channel is full.
@@ -73,7 +73,7 @@ pub fn send(b: Bench, k: u64) -> BenchDone
     if malformed(b) {
         return refused(b, 2);
     }
-    core::send(b, k)
+    inner::send(b, k)
 }
 
 // The data packet at place j arrives, and units that come out are written to `row` from its start. 8 where the row is shorter
@@ -85,7 +85,7 @@ pub fn data(b: Bench, j: u64, row: &mut [u64]) -> BenchDone
     if malformed(b) {
         return refused(b, 2);
     }
-    core::data(b, j, row)
+    inner::data(b, j, row)
 }
 
 // The receiver's window grows by 1: 13 where it is RW already.
@@ -95,7 +95,7 @@ pub fn room(b: Bench) -> BenchDone
     if malformed(b) {
         return refused(b, 2);
     }
-    core::room(b)
+    inner::room(b)
 }
 
 // The receiver sends an acknowledgement: 5 where the channel is full.
@@ -105,7 +105,7 @@ pub fn ack(b: Bench) -> BenchDone
     if malformed(b) {
         return refused(b, 2);
     }
-    core::ack(b)
+    inner::ack(b)
 }
 
 // The acknowledgement at place j arrives: 4 where there is none; with 0, 9, 10 and 11 it is gone from its channel.
@@ -115,7 +115,7 @@ pub fn hear(b: Bench, j: u64) -> BenchDone
     if malformed(b) {
         return refused(b, 2);
     }
-    core::hear(b, j)
+    inner::hear(b, j)
 }
 
 // The data packet at place j is lost: 4 where there is none.
@@ -125,7 +125,7 @@ pub fn dropd(b: Bench, j: u64) -> BenchDone
     if malformed(b) {
         return refused(b, 2);
     }
-    core::dropd(b, j)
+    inner::dropd(b, j)
 }
 
 // The acknowledgement at place j is lost: 4 where there is none.
@@ -135,7 +135,7 @@ pub fn dropa(b: Bench, j: u64) -> BenchDone
     if malformed(b) {
         return refused(b, 2);
     }
-    core::dropa(b, j)
+    inner::dropa(b, j)
 }
 
 // The data packet at place j is copied, with its age, to the end: 4 where there is none, 5 where the channel is full.
@@ -145,7 +145,7 @@ pub fn dupd(b: Bench, j: u64) -> BenchDone
     if malformed(b) {
         return refused(b, 2);
     }
-    core::dupd(b, j)
+    inner::dupd(b, j)
 }
 
 // The acknowledgement at place j is copied, with its age, to the end: 4 where there is none, 5 where the channel is full.
@@ -155,7 +155,7 @@ pub fn dupa(b: Bench, j: u64) -> BenchDone
     if malformed(b) {
         return refused(b, 2);
     }
-    core::dupa(b, j)
+    inner::dupa(b, j)
 }
 
 // A tick: both clocks move by 1, and everything that has an age becomes one older.
@@ -165,5 +165,5 @@ pub fn tick(b: Bench) -> BenchDone
     if malformed(b) {
         return refused(b, 2);
     }
-    core::tick(b)
+    inner::tick(b)
 }

@@ -1,9 +1,9 @@
-// What a script prints: the listing of its bytes. specs/Listing.antt defines it; `core` writes it a line or a row at a time.
+// What a script prints: the listing of its bytes. specs/Listing.antt defines it; `inner` writes it a line or a row at a time.
 #![tactic(auto)]
 
 ghost use Rattle.listing.specs.Fitting.{Wrote};
 
-pub mod core;
+pub mod inner;
 
 // How many bytes of the row were written, and whether they are the whole listing.
 #[derive(Drop)]
@@ -18,7 +18,7 @@ pub fn write(src: &[u8], out: &mut [u8]) -> Written
     ensures { Wrote src.now out.old out.new result }
 {
     let mut line = [0u8; 2048];
-    let first = core::first_line(src, &mut line);
+    let first = inner::first_line(src, &mut line);
     let n = first.len;
     if out.len() < n {
         return Written {
@@ -29,7 +29,7 @@ pub fn write(src: &[u8], out: &mut [u8]) -> Written
     let at = writer::inner::put_bytes(out, 0, &line[..n]);
     if first.more {
         let run = first.run;
-        let rest = core::fill(src, run, out, at);
+        let rest = inner::fill(src, run, out, at);
         return Written {
             len: rest.len,
             whole: !rest.more,

@@ -7,12 +7,12 @@ use libc::{STDIN_FILENO, STDOUT_FILENO};
 // (`writes_the_listing` of the crate listing).
 fn write_listing(src: &[u8]) {
     let mut out = [0u8; 16384];
-    let mut s = listing::core::first_line(src, &mut out);
+    let mut s = listing::inner::first_line(src, &mut out);
     let n = s.len;
     io::write_all(STDOUT_FILENO, &out[..n]);
     while s.more {
         let run = s.run;
-        s = listing::core::fill(src, run, &mut out, 0);
+        s = listing::inner::fill(src, run, &mut out, 0);
         let n = s.len;
         io::write_all(STDOUT_FILENO, &out[..n]);
     }

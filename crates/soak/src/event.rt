@@ -1,4 +1,4 @@
-// A drawn event on the bench, through the public operations or through the core. Units that come out stand at the start of the
+// A drawn event on the bench, through the public operations or through `inner`. Units that come out stand at the start of the
 // row, which has 64 places.
 ghost use Rattle.std.specs.Prelude.{◌≡◌, length};
 ghost use Rattle.rules.specs.Numbers.{wrapped};
@@ -35,16 +35,16 @@ pub fn unchecked(b: Bench, e: Drawn, row: &mut [u64]) -> BenchDone
     ensures { Ran (act (wrapped b.sender.setup) b.sender.setup (as_event e) b) row.new result }
 {
     match e {
-        Drawn::Accept(u) => bench::core::accept(b, u),
-        Drawn::Send(k) => bench::core::send(b, k),
-        Drawn::Data(j) => bench::core::data(b, j, row),
-        Drawn::Hear(j) => bench::core::hear(b, j),
-        Drawn::DropD(j) => bench::core::dropd(b, j),
-        Drawn::DropA(j) => bench::core::dropa(b, j),
-        Drawn::DupD(j) => bench::core::dupd(b, j),
-        Drawn::DupA(j) => bench::core::dupa(b, j),
-        Drawn::Room => bench::core::room(b),
-        Drawn::Ack => bench::core::ack(b),
-        Drawn::Tick => bench::core::tick(b),
+        Drawn::Accept(u) => bench::inner::accept(b, u),
+        Drawn::Send(k) => bench::inner::send(b, k),
+        Drawn::Data(j) => bench::inner::data(b, j, row),
+        Drawn::Hear(j) => bench::inner::hear(b, j),
+        Drawn::DropD(j) => bench::inner::dropd(b, j),
+        Drawn::DropA(j) => bench::inner::dropa(b, j),
+        Drawn::DupD(j) => bench::inner::dupd(b, j),
+        Drawn::DupA(j) => bench::inner::dupa(b, j),
+        Drawn::Room => bench::inner::room(b),
+        Drawn::Ack => bench::inner::ack(b),
+        Drawn::Tick => bench::inner::tick(b),
     }
 }

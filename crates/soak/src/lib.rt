@@ -52,7 +52,7 @@ pub fn unchecked(seed: u64, events: u64) -> u64
     ensures { result ≡ soaked seed events }
 {
     let mut row = [0u64; 64];
-    let mut b = bench::core::first(setup());
+    let mut b = bench::inner::first(setup());
     let mut x = draw::first(seed);
     let mut sum = 0;
     let mut left = events;

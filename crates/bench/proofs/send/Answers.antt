@@ -1,0 +1,16 @@
+-- `send` meets its contract: 2 where the bench is malformed, else what the event gives.
+use Rattle.std.proofs.Common.{sym, ◌∙◌}
+use Rattle.rules.specs.Operations.{step}
+use Rattle.rules.proofs.Fits.{fit_bench}
+use Rattle.bench.proofs.send.Goals as goal
+
+pub returns-then-malformed : goal.returns-then-malformed
+unfolding step
+returns-then-malformed c = rw (sym c.malformed.ensures ∙ c.if-malformed.true) c.refused.ensures
+
+pub send-requires : goal.send-requires
+send-requires c = fit_bench _ ? ? (sym c.malformed.ensures ∙ c.if-malformed.false)
+
+pub returns : goal.returns
+unfolding step
+returns c = rw (sym c.malformed.ensures ∙ c.if-malformed.false) c.send.ensures

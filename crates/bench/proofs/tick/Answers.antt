@@ -1,0 +1,16 @@
+-- `tick` meets its contract: 2 where the bench is malformed, else what the event gives.
+use Rattle.std.proofs.Common.{sym, ◌∙◌}
+use Rattle.rules.specs.Operations.{step}
+use Rattle.rules.proofs.Fits.{fit_bench}
+use Rattle.bench.proofs.tick.Goals as goal
+
+pub returns-then-malformed : goal.returns-then-malformed
+unfolding step
+returns-then-malformed c = rw (sym c.malformed.ensures ∙ c.if-malformed.true) c.refused.ensures
+
+pub tick-requires : goal.tick-requires
+tick-requires c = fit_bench _ ? ? (sym c.malformed.ensures ∙ c.if-malformed.false)
+
+pub returns : goal.returns
+unfolding step
+returns c = rw (sym c.malformed.ensures ∙ c.if-malformed.false) c.tick.ensures
