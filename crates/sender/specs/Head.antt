@@ -3,9 +3,9 @@ use Rattle.std.specs.Prelude.{◌≡◌, ℕ, ◌%◌, ◌^◌, List}
 use Rattle.rules.specs.declared.BareData.{BareData}
 use Rattle.rules.specs.declared.Sender.{Sender}
 use Rattle.rules.specs.Events.{Out, Made}
-use Rattle.sender.specs.declared.core.SenderHead.{SenderHead}
-use Rattle.sender.specs.declared.core.HeadDone.{HeadDone}
-use Rattle.sender.specs.declared.core.HeadSent.{HeadSent}
+use Rattle.sender.specs.declared.inner.SenderHead.{SenderHead}
+use Rattle.sender.specs.declared.inner.HeadDone.{HeadDone}
+use Rattle.sender.specs.declared.inner.HeadSent.{HeadSent}
 
 abbrev pub sender_of : SenderHead → List ℕ → Sender
 sender_of h sl = record {

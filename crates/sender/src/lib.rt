@@ -10,7 +10,7 @@ ghost use Rattle.rules.specs.Operations.{begun, sender_accept, sender_send, send
 
 use rules::{BareAck, BareData, Sender, SenderDone, SenderSent, Setup};
 
-pub mod core;
+pub mod inner;
 
 // A sender at its start; refused with 1, and all 0, where the setup is not admitted.
 pub fn fresh(s: Setup) -> SenderDone
@@ -19,12 +19,12 @@ pub fn fresh(s: Setup) -> SenderDone
     if setup::admitted(s) {
         SenderDone {
             answer: 0,
-            sender: core::first(s),
+            sender: inner::first(s),
         }
     } else {
         SenderDone {
             answer: 1,
-            sender: core::first(setup::zero()),
+            sender: inner::first(setup::zero()),
         }
     }
 }
@@ -35,7 +35,7 @@ pub fn malformed(s: Sender) -> bool
     if !setup::admitted(s.setup) {
         return true;
     }
-    !core::formed(s)
+    !inner::formed(s)
 }
 
 // Accepts a unit for sending: 6 where the window is closed, 7 where this tick's share is spent.
@@ -48,7 +48,7 @@ pub fn accept(s: Sender, unit: u64) -> SenderDone
             sender: s,
         };
     }
-    core::accept(s, unit)
+    inner::accept(s, unit)
 }
 
 // The packet of the k-th outstanding unit, counted from 0: 4 where there is none.
@@ -66,7 +66,7 @@ pub fn send(s: Sender, k: u64) -> SenderSent
             sender: s,
         };
     }
-    core::send(s, k)
+    inner::send(s, k)
 }
 
 // Hears an acknowledgement: 3 where a field of it is out of range; 9, 10 or 11 where it is stale, behind or beyond.
@@ -85,7 +85,7 @@ pub fn hear(s: Sender, p: BareAck) -> SenderDone
             sender: s,
         };
     }
-    core::hear(s, p)
+    inner::hear(s, p)
 }
 
 // The clock moves by 1, and recent becomes one older.
@@ -100,6 +100,6 @@ pub fn tick(s: Sender) -> SenderDone
     }
     SenderDone {
         answer: 0,
-        sender: core::tick(s),
+        sender: inner::tick(s),
     }
 }

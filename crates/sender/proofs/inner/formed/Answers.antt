@@ -1,0 +1,8 @@
+-- `formed` meets its contract: the test is the definition, field by field.
+use Rattle.rules.specs.Setups.{◌also◌}
+use Rattle.rules.specs.Malformed.{formed_sender}
+use Rattle.sender.proofs.inner.formed.Goals as goal
+
+pub returns : goal.returns
+unfolding formed_sender ◌also◌
+returns c = rw (c.in_range.ensures, c.in_range-2.ensures, c.formed.ensures, c.empty_ahead.ensures, c.empty_above.ensures)
