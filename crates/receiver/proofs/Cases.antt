@@ -15,10 +15,10 @@ use Rattle.rules.specs.Fit.{Within, FitReceiver, FitData}
 use Rattle.rules.specs.Events.{Out, Delivery, refused, done, passed, older, may_arrive, deliver, advanced, stored, arriving, opened, opening, ticked_receiver}
 use Rattle.rules.specs.Operations.{receiver_done, receiver_took}
 use Rattle.rules.proofs.Deliveries.{within_here, few, dist_same, dist_other}
-use Rattle.receiver.specs.declared.core.ReceiverHead.{ReceiverHead}
-use Rattle.receiver.specs.declared.core.HeadDone.{HeadDone}
-use Rattle.receiver.specs.declared.core.HeadTook.{HeadTook}
-use Rattle.receiver.specs.declared.core.lent.Delivered.{Delivered}
+use Rattle.receiver.specs.declared.inner.ReceiverHead.{ReceiverHead}
+use Rattle.receiver.specs.declared.inner.HeadDone.{HeadDone}
+use Rattle.receiver.specs.declared.inner.HeadTook.{HeadTook}
+use Rattle.receiver.specs.declared.inner.lent.Delivered.{Delivered}
 use Rattle.receiver.specs.Head.{receiver_of, head_of, head_done, head_advanced, Leaves, Comes, round}
 
 -- ---- a head and its slots

@@ -4,10 +4,10 @@ use Rattle.rules.specs.declared.Receiver.{Receiver}
 use Rattle.rules.specs.Rows.{laid}
 use Rattle.rules.specs.Parts.{since}
 use Rattle.rules.specs.Events.{Out, Delivery}
-use Rattle.receiver.specs.declared.core.ReceiverHead.{ReceiverHead}
-use Rattle.receiver.specs.declared.core.HeadDone.{HeadDone}
-use Rattle.receiver.specs.declared.core.HeadTook.{HeadTook}
-use Rattle.receiver.specs.declared.core.lent.Delivered.{Delivered}
+use Rattle.receiver.specs.declared.inner.ReceiverHead.{ReceiverHead}
+use Rattle.receiver.specs.declared.inner.HeadDone.{HeadDone}
+use Rattle.receiver.specs.declared.inner.HeadTook.{HeadTook}
+use Rattle.receiver.specs.declared.inner.lent.Delivered.{Delivered}
 
 abbrev pub receiver_of : ReceiverHead → List ℕ → Receiver
 receiver_of h sl = record

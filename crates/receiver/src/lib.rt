@@ -11,7 +11,7 @@ ghost use Rattle.rules.specs.Operations.{begun, receiver_data, receiver_room, re
 
 use rules::{BareAck, BareData, Receiver, ReceiverAcked, ReceiverDone, ReceiverTook, Setup};
 
-pub mod core;
+pub mod inner;
 
 // A receiver at its start; refused with 1, and all 0, where the setup is not admitted.
 pub fn fresh(s: Setup) -> ReceiverDone
@@ -20,12 +20,12 @@ pub fn fresh(s: Setup) -> ReceiverDone
     if setup::admitted(s) {
         ReceiverDone {
             answer: 0,
-            receiver: core::first(s),
+            receiver: inner::first(s),
         }
     } else {
         ReceiverDone {
             answer: 1,
-            receiver: core::first(setup::zero()),
+            receiver: inner::first(setup::zero()),
         }
     }
 }
@@ -36,7 +36,7 @@ pub fn malformed(r: Receiver) -> bool
     if !setup::admitted(r.setup) {
         return true;
     }
-    !core::formed(r)
+    !inner::formed(r)
 }
 
 // A data packet arrives; the units that it lets out are written to `row` from its start, and `count` says how many. 8 where the
@@ -67,7 +67,7 @@ pub fn data(r: Receiver, p: BareData, row: &mut [u64]) -> ReceiverTook
             receiver: r,
         };
     }
-    core::data(r, p, row)
+    inner::data(r, p, row)
 }
 
 // The window grows by 1: 13 where it is RW already.
@@ -80,7 +80,7 @@ pub fn room(r: Receiver) -> ReceiverDone
             receiver: r,
         };
     }
-    core::room(r)
+    inner::room(r)
 }
 
 // The acknowledgement to send now.
@@ -100,7 +100,7 @@ pub fn ack(r: Receiver) -> ReceiverAcked
     }
     ReceiverAcked {
         answer: 0,
-        packet: core::ack(r),
+        packet: inner::ack(r),
         receiver: r,
     }
 }
@@ -117,6 +117,6 @@ pub fn tick(r: Receiver) -> ReceiverDone
     }
     ReceiverDone {
         answer: 0,
-        receiver: core::tick(r),
+        receiver: inner::tick(r),
     }
 }
