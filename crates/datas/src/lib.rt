@@ -10,7 +10,7 @@ ghost use Rattle.rules.specs.Operations.{begun, channel_add, channel_take, chann
 
 use rules::{BareData, DataChannel, DataChannelDone, DataChannelTaken, Setup};
 
-pub mod core;
+pub mod inner;
 
 // An empty channel; refused with 1, and all 0, where the setup is not admitted.
 pub fn fresh(s: Setup) -> DataChannelDone
@@ -19,13 +19,13 @@ pub fn fresh(s: Setup) -> DataChannelDone
     if setup::admitted(s) {
         DataChannelDone {
             answer: 0,
-            channel: core::empty(s),
+            channel: inner::empty(s),
         }
     } else {
         let z = setup::zero();
         DataChannelDone {
             answer: 1,
-            channel: core::empty(z),
+            channel: inner::empty(z),
         }
     }
 }
@@ -36,7 +36,7 @@ pub fn malformed(c: DataChannel) -> bool
     if !setup::admitted(c.setup) {
         return true;
     }
-    !core::formed(c)
+    !inner::formed(c)
 }
 
 // Adds a packet at the end, with age 0: 3 where a field of it is out of range, 5 where the channel is full.
@@ -55,7 +55,7 @@ pub fn add(c: DataChannel, p: BareData) -> DataChannelDone
             channel: c,
         };
     }
-    core::add(c, p)
+    inner::add(c, p)
 }
 
 // Takes the packet at place j out, without its age: 4 where there is none.
@@ -65,11 +65,11 @@ pub fn take(c: DataChannel, j: u64) -> DataChannelTaken
     if malformed(c) {
         return DataChannelTaken {
             answer: 2,
-            packet: core::nothing(),
+            packet: inner::nothing(),
             channel: c,
         };
     }
-    core::take(c, j)
+    inner::take(c, j)
 }
 
 // Loses the packet at place j: 4 where there is none.
@@ -82,7 +82,7 @@ pub fn drop(c: DataChannel, j: u64) -> DataChannelDone
             channel: c,
         };
     }
-    core::drop(c, j)
+    inner::drop(c, j)
 }
 
 // Adds a copy of the packet at place j, of the same age: 4 where there is none, 5 where the channel is full.
@@ -95,7 +95,7 @@ pub fn duplicate(c: DataChannel, j: u64) -> DataChannelDone
             channel: c,
         };
     }
-    core::duplicate(c, j)
+    inner::duplicate(c, j)
 }
 
 // Every packet becomes one older; one older than the packets' life is gone.
@@ -110,6 +110,6 @@ pub fn tick(c: DataChannel) -> DataChannelDone
     }
     DataChannelDone {
         answer: 0,
-        channel: core::tick(c),
+        channel: inner::tick(c),
     }
 }

@@ -1,0 +1,12 @@
+-- `add` meets its contract: a channel that is not malformed is fit for the work.
+use Rattle.std.proofs.Common.{sym, ◌∙◌, arith}
+use Rattle.rules.proofs.Channels.{sound_datas}
+use Rattle.datas.proofs.add.Goals as goal
+
+pub data_in_range-requires : goal.data_in_range-requires
+data_in_range-requires c =
+    let f = (sound_datas _ (omega arith) (sym c.malformed.ensures ∙ c.if-malformed.false)).0 in
+    (f.seqbits, f.clockbits)
+
+pub add-requires : goal.add-requires
+add-requires c = (sound_datas _ (omega arith) (sym c.malformed.ensures ∙ c.if-malformed.false)).1
