@@ -1,5 +1,5 @@
 -- `data` meets its contract: 2 where the bench is malformed, else what the event gives.
-use Rattle.std.proofs.Common.{sym, ◌∙◌}
+use Rattle.std.proofs.Common.{sym, ◌∙◌, arith}
 use Rattle.rules.specs.Operations.{step}
 use Rattle.rules.proofs.Fits.{fit_bench}
 use Rattle.bench.proofs.data.Goals as goal
@@ -11,7 +11,7 @@ returns-then-malformed c =
     record { gives = rw bad c.refused.ensures; lent = rw bad }
 
 pub data-requires : goal.data-requires
-data-requires c = fit_bench _ ? ? (sym c.malformed.ensures ∙ c.if-malformed.false)
+data-requires c = fit_bench _ (omega arith) (omega arith) (sym c.malformed.ensures ∙ c.if-malformed.false)
 
 pub returns : goal.returns
 unfolding step

@@ -6,4 +6,4 @@ pub returns-then-admitted : goal.returns-then-admitted
 returns-then-admitted c = rw (sym c.admitted.ensures ∙ c.if-admitted.true, c.first.ensures)
 
 pub returns-else-admitted : goal.returns-else-admitted
-returns-else-admitted c = rw (sym c.admitted.ensures ∙ c.if-admitted.false, c.first-2.ensures, c.zero.ensures)
+returns-else-admitted c = rw (sym c.admitted.ensures ∙ c.if-admitted.false, c.first-else-admitted.ensures, c.zero.ensures)

@@ -7,19 +7,19 @@ use Rattle.rules.proofs.Fits.{limits, fit_setup, same_is}
 use Rattle.bench.specs.Parts.{same_setups}
 use Rattle.bench.proofs.malformed.Goals as goal
 
-pub returns-then-admitted : goal.returns-then-admitted
+pub returns-then-not-admitted : goal.returns-then-not-admitted
 unfolding malformed_bench formed_bench ◌also◌
-returns-then-admitted c = rw (sym c.admitted.ensures ∙ c.if-admitted.false)
+returns-then-not-admitted c = rw (sym c.admitted.ensures ∙ c.if-not-admitted.true)
 
-pub returns-then-one_setup : goal.returns-then-one_setup
+pub returns-then-not-one_setup : goal.returns-then-not-one_setup
 unfolding malformed_bench formed_bench ◌also◌
-returns-then-one_setup c = rw (sym c.admitted.ensures ∙ c.if-admitted.true, sym c.one_setup.ensures ∙ c.if-one_setup.false)
+returns-then-not-one_setup c = rw (sym c.admitted.ensures ∙ c.if-not-admitted.false, sym c.one_setup.ensures ∙ c.if-not-one_setup.true)
 
 pub parts_formed-requires : goal.parts_formed-requires
 parts_formed-requires c =
     let b = c.args.b in
-    let adm : admitted b.sender.setup ≡ true = sym c.admitted.ensures ∙ c.if-admitted.true in
-    let one : same_setups b ≡ true = sym c.one_setup.ensures ∙ c.if-one_setup.true in
+    let adm : admitted b.sender.setup ≡ true = sym c.admitted.ensures ∙ c.if-not-admitted.false in
+    let one : same_setups b ≡ true = sym c.one_setup.ensures ∙ c.if-not-one_setup.false in
     let a = both one in let d = both a.0 in (
       fit_setup (limits _ adm),
       record {
@@ -32,6 +32,6 @@ parts_formed-requires c =
 pub returns : goal.returns
 unfolding malformed_bench formed_bench ◌also◌
 returns c =
-    let adm = sym c.admitted.ensures ∙ c.if-admitted.true in
-    let one = sym c.one_setup.ensures ∙ c.if-one_setup.true in
+    let adm = sym c.admitted.ensures ∙ c.if-not-admitted.false in
+    let one = sym c.one_setup.ensures ∙ c.if-not-one_setup.false in
     rw (adm, one, c.parts_formed.ensures)

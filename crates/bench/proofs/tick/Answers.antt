@@ -1,5 +1,5 @@
 -- `tick` meets its contract: 2 where the bench is malformed, else what the event gives.
-use Rattle.std.proofs.Common.{sym, ◌∙◌}
+use Rattle.std.proofs.Common.{sym, ◌∙◌, arith}
 use Rattle.rules.specs.Operations.{step}
 use Rattle.rules.proofs.Fits.{fit_bench}
 use Rattle.bench.proofs.tick.Goals as goal
@@ -9,7 +9,7 @@ unfolding step
 returns-then-malformed c = rw (sym c.malformed.ensures ∙ c.if-malformed.true) c.refused.ensures
 
 pub tick-requires : goal.tick-requires
-tick-requires c = fit_bench _ ? ? (sym c.malformed.ensures ∙ c.if-malformed.false)
+tick-requires c = fit_bench _ (omega arith) (omega arith) (sym c.malformed.ensures ∙ c.if-malformed.false)
 
 pub returns : goal.returns
 unfolding step

@@ -6,12 +6,12 @@ use Rattle.rules.specs.Events.{act}
 use Rattle.rules.proofs.Benches.{sending_refused, sending_done}
 use Rattle.bench.proofs.inner.send.Goals as goal
 
-pub returns-then-answer : goal.returns-then-answer
+pub returns-then-sending-ne0 : goal.returns-then-sending-ne0
 unfolding act
-returns-then-answer c =
+returns-then-sending-ne0 c =
     let b = c.args.b in
     let e = ap (λ (m : SenderSent). m.answer) c.send-sending.ensures in
-    let h = sending_refused (wrapped b.sender.setup) b.sender.setup c.args.k b.sender e c.if-answer.true in
+    let h = sending_refused (wrapped b.sender.setup) b.sender.setup c.args.k b.sender e c.if-sending-ne0.true in
     rw (h.1, h.0)
 
 pub returns : goal.returns
@@ -19,5 +19,5 @@ unfolding act
 returns c =
     let b = c.args.b in
     let e = ap (λ (m : SenderSent). m.answer) c.send-sending.ensures in
-    let h = sending_done (wrapped b.sender.setup) b.sender.setup c.args.k b.sender e c.if-answer.false in
+    let h = sending_done (wrapped b.sender.setup) b.sender.setup c.args.k b.sender e c.if-sending-ne0.false in
     rw (c.add-adding.ensures, c.send-sending.ensures, h)
