@@ -1,13 +1,10 @@
 -- A delivery on its way: what is out stands in the row from its start, and the rest is what the rule gives from there on. What
 -- the delivery's loop is proved by.
-use Rattle.std.specs.Prelude.{◌≡◌, ℕ, zero, suc, ◌+◌, ◌-◌, ◌%◌, ◌^◌, ◌<◌, ◌≤◌, true, false, List, [], ◌∷◌, ◌++◌, length, get_or, take, drop, set}
-use mathlib.Core.Path.{refl, ap, sym, ◌∙◌}
-use mathlib.Core.List.{append_assoc, append-nil}
-use Prim.Native.Nat.{◌∣◌}
-use native.Mathlib.Omega.{arith}
-use native.Mathlib.Numerals.{add-one}
-use lib.ListN.{length-set, take-append-drop}
-use lib.Seq.{take-suc-set, length-take-le}
+use Rattle.std.proofs.Common.{◌≡◌, ℕ, zero, suc, ◌+◌, ◌-◌, ◌%◌, ◌^◌, ◌<◌, ◌≤◌, true, false, List, [], ◌∷◌, ◌++◌, length, get_or, take, drop, set, refl, ap, sym, ◌∙◌, arith}
+use Rattle.std.specs.Int.{◌∣◌}
+use Rattle.std.proofs.Math.Numerals.{add-one}
+use Rattle.std.proofs.Math.Seq.{take-suc-set}
+use Rattle.std.proofs.lemmas.List.{append_assoc, append-nil, length-set, take-append-drop, length-take-le}
 use Rattle.rules.specs.Marks.{marked, unmark}
 use Rattle.rules.specs.Fit.{Within}
 use Rattle.rules.specs.Events.{Delivery, deliver}

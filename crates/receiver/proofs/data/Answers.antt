@@ -1,5 +1,5 @@
 -- `data` meets its contract: what passes the refusals has what the work asks for.
-use Rattle.std.proofs.Common.{sym, ◌∙◌}
+use Rattle.std.proofs.Common.{sym, ◌∙◌, arith}
 use Rattle.rules.proofs.Fits.{fit_receiver, fit_data}
 use Rattle.receiver.proofs.data.Goals as goal
 
@@ -12,5 +12,5 @@ pub data-requires : goal.data-requires
 data-requires c = (
   fit_receiver _ (sym c.malformed.ensures ∙ c.if-malformed.false),
   fit_data _ _ (sym c.data_in_range.ensures ∙ c.if-not-data_in_range.false),
-  c.if-row-r.false,
+  omega arith,
 )

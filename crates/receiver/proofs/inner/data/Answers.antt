@@ -1,5 +1,5 @@
 -- `data` meets its contract: what arrives for the head and its slots arrives for the whole.
-use Rattle.receiver.proofs.Cases.{fit_head, arriving_whole}
+use Rattle.receiver.proofs.Cases.{fit_head}
 use Rattle.receiver.proofs.inner.data.Goals as goal
 
 pub data-o-requires : goal.data-o-requires
