@@ -215,6 +215,7 @@ fn one_older(p: AckPacket) -> AckPacket
 }
 
 // Not malformed, for a setup that is admitted.
+#[tactic(auto, using(rules::proofs::Channels::formed_many))]
 pub fn formed(c: AckChannel) -> bool
     requires { FitSetup c.setup }
     ensures { result ≡ formed_channel ack_channel (formed_ack (wrapped c.setup) c.setup) c }

@@ -215,6 +215,7 @@ fn one_older(p: DataPacket) -> DataPacket
 }
 
 // Not malformed, for a setup that is admitted.
+#[tactic(auto, using(rules::proofs::Channels::formed_many))]
 pub fn formed(c: DataChannel) -> bool
     requires { FitSetup c.setup }
     ensures { result ≡ formed_channel data_channel (formed_data (wrapped c.setup) c.setup) c }
