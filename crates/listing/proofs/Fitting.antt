@@ -1,27 +1,24 @@
 -- Lines written into a row as long as they fit: a line at a time.
-use Rattle.std.specs.Prelude.{◌≡◌, ℕ, ◌+◌, ◌-◌, ◌<◌, ◌≤◌, Bool, true, false, cond, not, ltb, leb, List, [], ◌∷◌, ◌++◌, length}
-use mathlib.Core.Path.{refl, ap, sym, ◌∙◌}
-use mathlib.Core.List.{append-nil}
-use native.Mathlib.Omega.{arith}
-use borrow.Author.Tests.{lt-ltb, le-ltb, lt-leb, le-leb, ltb-true, ltb-false}
-use lib.ListN.{length-append}
+use Rattle.std.specs.Prelude.{◌≡◌, ℕ, ◌+◌, ◌-◌, ◌<◌, ◌≤◌, Bool, true, false, cond, not, nat_lt, nat_le, List, [], ◌∷◌, ◌++◌, length}
+use Rattle.std.proofs.Common.{refl, sym, ◌∙◌, append-nil, arith, lt-ltb, le-ltb, le-leb, ltb-true, ltb-false, length-append}
+use Rattle.std.proofs.lemmas.Bool.{lt-leb}
 use Rattle.writer.specs.Row.{put, Put}
 use Rattle.writer.proofs.Row.{put_then, put_nothing}
-use Rattle.listing.specs.declared.core.Run.{Run}
+use Rattle.listing.specs.declared.inner.Run.{Run}
 use Rattle.listing.specs.Listing.{lines, joined, listing}
 use Rattle.listing.specs.Run.{next, first, rest, after}
-use Rattle.listing.specs.Fitting.{taken, Fill, filling, Wrote}
-use Rattle.listing.proofs.Steps.{then, rest_step}
+use Rattle.listing.specs.Fitting.{taken, filling, Wrote}
+use Rattle.listing.proofs.Steps.{rest_step}
 use Rattle.listing.proofs.Setups.{first_lines}
 
-less_by : (r a b : ℕ) (q : Bool) → ltb (r - a) b ≡ q → a ≤ r → ltb r (a + b) ≡ q
+less_by : (r a b : ℕ) (q : Bool) → nat_lt (r - a) b ≡ q → a ≤ r → nat_lt r (a + b) ≡ q
 less_by r a b true e h = lt-ltb r (a + b) (omega (arith, ltb-true (r - a) b e))
 less_by r a b false e h = le-ltb r (a + b) (omega (arith, ltb-false (r - a) b e))
 
-pub not_less : (a b : ℕ) → leb a b ≡ not (ltb b a)
-not_less a b = go (ltb b a) refl
+pub not_less : (a b : ℕ) → nat_le a b ≡ not (nat_lt b a)
+not_less a b = go (nat_lt b a) refl
   where
-    go : (q : Bool) → ltb b a ≡ q → leb a b ≡ not q
+    go : (q : Bool) → nat_lt b a ≡ q → nat_le a b ≡ not q
     go true e = lt-leb a b (ltb-true b a e)
     go false e = le-leb a b (ltb-false b a e)
 
@@ -32,7 +29,7 @@ module _ (room : ℕ) (l : List ℕ) (m : Bool) (ls : List (List ℕ)) where
     unfolding taken
     taken_full = rw (lt-leb _ _ h)
 
-    pub long_full : ltb room (length (joined (l ∷ cond m ls []))) ≡ true
+    pub long_full : nat_lt room (length (joined (l ∷ cond m ls []))) ≡ true
     unfolding joined
     long_full = rw length-append (lt-ltb room (length l + length (joined (cond m ls []))) (omega arith))
 
@@ -41,7 +38,7 @@ module _ (room : ℕ) (l : List ℕ) (m : Bool) (ls : List (List ℕ)) where
     unfolding taken
     taken_last e = rw (le-leb _ _ h, e)
 
-    pub long_last : m ≡ false → ltb room (length (joined (l ∷ cond m ls []))) ≡ false
+    pub long_last : m ≡ false → nat_lt room (length (joined (l ∷ cond m ls []))) ≡ false
     unfolding joined
     long_last e = rw (e, append-nil) (le-ltb _ _ h)
 
@@ -49,7 +46,7 @@ module _ (room : ℕ) (l : List ℕ) (m : Bool) (ls : List (List ℕ)) where
     unfolding taken
     taken_on e = rw (le-leb _ _ h, e)
 
-    pub long_on : m ≡ true → ltb room (length (joined (l ∷ cond m ls []))) ≡ ltb (room - length l) (length (joined ls))
+    pub long_on : m ≡ true → nat_lt room (length (joined (l ∷ cond m ls []))) ≡ nat_lt (room - length l) (length (joined ls))
     unfolding joined
     long_on e = rw (e, length-append) (less_by room (length l) (length (joined ls)) _ refl h)
 
@@ -91,14 +88,14 @@ module _ (room : ℕ) (s : List ℕ) (run : Run) (h : run.at < length s) where
 
 -- ---- from the start
 module _ (room : ℕ) (s : List ℕ) where
-  pub start_full : room < length (first s).line → (joined (taken room (lines s)) ≡ []) × (leb (length (listing s)) room ≡ false)
+  pub start_full : room < length (first s).line → (joined (taken room (lines s)) ≡ []) × (nat_le (length (listing s)) room ≡ false)
   unfolding listing joined
   start_full l =
       let n = first s in
       rw (not_less, first_lines s, taken_full room n.line n.more (rest s n.run) l, long_full room n.line n.more (rest s n.run) l) (refl, refl)
 
   module _ (l : length (first s).line ≤ room) where
-    pub start_last : (first s).more ≡ false → (joined (taken room (lines s)) ≡ (first s).line) × (leb (length (listing s)) room ≡ true)
+    pub start_last : (first s).more ≡ false → (joined (taken room (lines s)) ≡ (first s).line) × (nat_le (length (listing s)) room ≡ true)
     unfolding listing joined
     start_last e =
         let n = first s in
@@ -107,7 +104,7 @@ module _ (room : ℕ) (s : List ℕ) where
     pub start_on :
         (first s).more ≡ true
         → (joined (taken room (lines s)) ≡ (first s).line ++ (filling (room - length (first s).line) s (first s).run).text)
-        × (leb (length (listing s)) room ≡ not (filling (room - length (first s).line) s (first s).run).more)
+        × (nat_le (length (listing s)) room ≡ not (filling (room - length (first s).line) s (first s).run).more)
     unfolding listing joined filling
     start_on e =
         let n = first s in
@@ -163,9 +160,9 @@ module _ (s old : List ℕ) (from : ℕ) (run : Run) (out : List ℕ) (at : ℕ)
 
 -- a row with room for any line takes one
 pub some_fits : (a₀ a at from room n : ℕ) → (a ≤ a₀ → at ≡ from) → n ≤ 2048 → room - at < n → from + 2048 ≤ room → a₀ < a
-some_fits a₀ a at from room n q k f r = go (ltb a₀ a) refl
+some_fits a₀ a at from room n q k f r = go (nat_lt a₀ a) refl
   where
-    go : (t : Bool) → ltb a₀ a ≡ t → a₀ < a
+    go : (t : Bool) → nat_lt a₀ a ≡ t → a₀ < a
     go true e = ltb-true a₀ a e
     go false e = absurd (omega (arith, q (ltb-false a₀ a e)))
 

@@ -1,6 +1,6 @@
 -- The session of document 01, from its bytes to its listing, computed from the definition.
 use Rattle.std.specs.Prelude.{◌≡◌}
-use mathlib.Core.Path.{refl}
+use Rattle.std.proofs.Common.{refl}
 use Rattle.rules.specs.Numbers.{dist}
 use Rattle.rules.specs.Setups.{◌also◌, is_window, in_limits, in_ranges, admitted, same_setup}
 use Rattle.rules.specs.Marks.{marked, mark, unmark}

@@ -1,11 +1,7 @@
 -- The setup lines: as pieces of the script and as a walk over it; and the judgement.
-use Rattle.std.specs.Prelude.{◌≡◌, ℕ, zero, suc, ◌+◌, ◌-◌, ◌^◌, ◌<◌, ◌≤◌, Bool, true, false, cond, eqb, ltb, List, [], ◌∷◌, ◌++◌, length, take, drop, set}
-use mathlib.Core.Path.{refl, ap, sym, ◌∙◌}
-use mathlib.Core.Bool.{false≢true}
-use native.Mathlib.Omega.{arith}
-use native.Mathlib.Numerals.{add-one}
-use borrow.Author.Tests.{eq-eqb, ne_eqb, eqb-true, eqb-false, lt-ltb, le-ltb, ltb-true}
-use lib.Seq.{take-suc-set, take_all}
+use Rattle.std.specs.Prelude.{◌≡◌, ℕ, zero, suc, ◌+◌, ◌-◌, ◌^◌, ◌<◌, ◌≤◌, Bool, true, false, cond, nat_eq, nat_lt, List, [], ◌∷◌, ◌++◌, length, take, drop, set}
+use Rattle.std.proofs.Common.{refl, ap, sym, ◌∙◌, arith, add-one, eq-eqb, ne_eqb, eqb-true, lt-ltb, le-ltb, ltb-true, take-suc-set, take_all}
+use Rattle.std.proofs.lemmas.Bool.{false≢true, eqb-false}
 use Rattle.rules.specs.declared.Setup.{Setup}
 use Rattle.rules.specs.declared.Bench.{Bench}
 use Rattle.rules.specs.Setups.{◌also◌, admitted, zero_setup}
@@ -20,9 +16,9 @@ use Rattle.reader.specs.Values.{on_value}
 use Rattle.reader.specs.Lines.{setup_value}
 use Rattle.reader.proofs.Cuts.{split_at, split_end, split_some, index_at}
 use Rattle.writer.specs.Row.{Put}
-use Rattle.listing.specs.declared.core.begin.SetupLines.{SetupLines}
+use Rattle.listing.specs.declared.inner.begin.SetupLines.{SetupLines}
 use Rattle.listing.specs.Listing.{bad_line, bad_input, setup_line, events_from, setup_of, in_fields, judged, setup_from, lines}
-use Rattle.listing.specs.Run.{Next, last, end_of, piece, opened, nowhere, over, judged_at, open_from, first, Ready, WroteLine, Opened, settled, SetupRead, rest}
+use Rattle.listing.specs.Run.{Next, last, end_of, piece, opened, nowhere, over, judged_at, open_from, first, Opened, settled, SetupRead, rest}
 use Rattle.listing.proofs.Steps.{then, rest_more}
 
 -- ---- the judgement
@@ -121,7 +117,7 @@ one_more l i x h = rw (add-one i) (sym (take-suc-set l i x h))
 events_more :
     (S : Setup) (at : ℕ) (s : List ℕ)
     → events_from (fresh_bench S) 9 1 (split 10 (drop at s))
-    ≡ cond (ltb at (length s)) (rest s (record { at = at; line = 9; event = 1; bench = fresh_bench S })) []
+    ≡ cond (nat_lt at (length s)) (rest s (record { at = at; line = 9; event = 1; bench = fresh_bench S })) []
 unfolding rest
 events_more S at s = rest_more s (record { at = at; line = 9; event = 1; bench = fresh_bench S })
 
@@ -166,7 +162,7 @@ module _ (s : List ℕ) (k n at : ℕ) (vs : List ℕ) (h : at ≤ length s) (m 
       setup_on d ∙ rw (e, open_good s k n at vs _ here d x e) (r (omega (arith, here.within)) x)
   open_value ValueCase.Bad d e r = setup_on d ∙ rw (e, open_bad s k n at vs _ here d e)
 
-  open_end : (q : Bool) → eqb (end_of s at) (length s) ≡ q → After
+  open_end : (q : Bool) → nat_eq (end_of s at) (length s) ≡ q → After
       → setup_from n vs (split 10 (drop at s)) ≡ then s (open_from (suc k) n at vs s)
   open_end true e r =
       let f = eqb-true (end_of s at) (length s) e in
@@ -181,16 +177,16 @@ opens zero n at vs s e h =
     (at_nine vs (split 10 (drop at s)) (split_some 10 (drop at s))
     ∙ judged_by (setup_of vs) at s (in_fields (setup_of vs) also admitted (setup_of vs)) refl)
 opens (suc k) n at vs s e h =
-    open_end s k n at vs h (λ f. omega arith) (eqb (end_of s at) (length s)) refl
+    open_end s k n at vs h (λ f. omega arith) (nat_eq (end_of s at) (length s)) refl
     (λ l x. opens k (n + 1) (end_of s at + 1) (vs ++ x ∷ []) s (omega arith) l)
 
-first_by : (s : List ℕ) (q : Bool) → ltb 65536 (length s) ≡ q → lines s ≡ then s (first s)
+first_by : (s : List ℕ) (q : Bool) → nat_lt 65536 (length s) ≡ q → lines s ≡ then s (first s)
 unfolding lines first
 first_by s true e = rw e
 first_by s false e = rw e (opens 8 1 0 [] s refl (omega arith))
 
 pub first_lines : (s : List ℕ) → lines s ≡ then s (first s)
-first_lines s = first_by s (ltb 65536 (length s)) refl
+first_lines s = first_by s (nat_lt 65536 (length s)) refl
 
 -- ---- a run that begins has a line to begin with
 abbrev Within : List ℕ → Next → Type 0
@@ -211,17 +207,17 @@ within_open : (k n at : ℕ) (vs s : List ℕ) → Within s (open_from k n at vs
 unfolding open_from
 within_open zero n at vs s = within_judged (setup_of vs) at s (in_fields (setup_of vs) also admitted (setup_of vs)) refl
 within_open (suc k) n at vs s =
-    within_by s n (eqb (end_of s at) (length s)) (setup_value n (piece s at))
+    within_by s n (nat_eq (end_of s at) (length s)) (setup_value n (piece s at))
     (λ v. open_from k (n + 1) (end_of s at + 1) (vs ++ v ∷ []) s)
     (λ x. within_open k (n + 1) (end_of s at + 1) (vs ++ x ∷ []) s)
 
-within_first : (s : List ℕ) (q : Bool) → ltb 65536 (length s) ≡ q → Within s (first s)
+within_first : (s : List ℕ) (q : Bool) → nat_lt 65536 (length s) ≡ q → Within s (first s)
 unfolding first
 within_first s true e = rw e (λ m. absurd (false≢true m))
 within_first s false e = rw e (within_open 8 1 0 [] s)
 
 pub first_within : (s : List ℕ) → (first s).more ≡ true → (first s).run.at < length s
-first_within s = within_first s (ltb 65536 (length s)) refl
+first_within s = within_first s (nat_lt 65536 (length s)) refl
 
 -- ---- the cases of the first line
 module _ (s : List ℕ) where
@@ -247,7 +243,7 @@ module _ (s : List ℕ) where
           → first s
           ≡ record {
             line = setup_line 0;
-            more = ltb r.at (length s);
+            more = nat_lt r.at (length s);
             run = record { at = r.at; line = 9; event = 1; bench = fresh_bench (setup_of r.values) };
           }
       unfolding judged_at
@@ -256,7 +252,7 @@ module _ (s : List ℕ) where
       pub opened_on :
           (old new : List ℕ) (n : ℕ) (b : Bench) → in_fields (setup_of r.values) also admitted (setup_of r.values) ≡ true
           → b ≡ fresh_bench (setup_of r.values) → Put old new 0 (setup_line 0) n
-          → Opened s old new (record { len = n; more = ltb r.at (length s); run = record { at = r.at; line = 9; event = 1; bench = b } })
+          → Opened s old new (record { len = n; more = nat_lt r.at (length s); run = record { at = r.at; line = 9; event = 1; bench = b } })
       opened_on old new n b e q p =
           let f = first_on e in
           let l : 8 ≤ r.at = i.far z in

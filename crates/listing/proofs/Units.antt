@@ -1,9 +1,7 @@
 -- An event on the bench, as the code gives it back: only arriving data delivers units, and they stand at the lent row's start.
-use Rattle.std.specs.Prelude.{◌≡◌, ℕ, ◌≤◌, Bool, true, false, cond, leb, List, [], ◌∷◌, ◌++◌, length, take, drop}
-use mathlib.Core.Path.{refl, ap, sym, ◌∙◌}
-use native.Mathlib.Omega.{arith}
-use lib.ListN.{length-append}
-use lib.Seq.{take-append_seam}
+use Rattle.std.specs.Prelude.{◌≡◌, ℕ, Bool, true, false, cond, nat_le, List, [], length, drop}
+use Rattle.std.proofs.Common.{refl, ap, arith, length-append}
+use Rattle.std.proofs.Math.Seq.{take-append_seam}
 use Rattle.rules.specs.declared.Receiver.{Receiver}
 use Rattle.rules.specs.declared.Bench.{Bench}
 use Rattle.rules.specs.declared.BenchDone.{BenchDone}
@@ -33,11 +31,11 @@ module _ (b : Bench) where
 
   pub send_none : (k : ℕ) → (step wrapped (send k) b).units ≡ []
   unfolding act
-  send_none k = step_none (send k) b (neither Bench (leb b.sender.outstanding k) _ _ refl refl)
+  send_none k = step_none (send k) b (neither Bench (nat_le b.sender.outstanding k) _ _ refl refl)
 
   pub hear_none : (j : ℕ) → (step wrapped (hear j) b).units ≡ []
   unfolding act
-  hear_none j = step_none (hear j) b (neither Bench (leb b.acks.count j) _ _ refl refl)
+  hear_none j = step_none (hear j) b (neither Bench (nat_le b.acks.count j) _ _ refl refl)
 
   pub dropd_none : (j : ℕ) → (step wrapped (dropd j) b).units ≡ []
   unfolding act
@@ -57,7 +55,7 @@ module _ (b : Bench) where
 
   pub room_none : (step wrapped room b).units ≡ []
   unfolding act
-  room_none = step_none room b (neither Receiver (leb b.sender.setup.window b.receiver.window) _ _ refl refl)
+  room_none = step_none room b (neither Receiver (nat_le b.sender.setup.window b.receiver.window) _ _ refl refl)
 
   pub ack_none : (step wrapped acknowledge b).units ≡ []
   unfolding act

@@ -1,11 +1,8 @@
 -- What the program writes is the listing.
-use Rattle.std.specs.Prelude.{◌≡◌, ℕ, zero, suc, ◌-◌, ◌<◌, ◌≤◌, Bool, true, false, cond, leb, List, [], ◌∷◌, ◌++◌, length}
-use mathlib.Core.Path.{refl, ap, sym, ◌∙◌}
-use mathlib.Core.Bool.{false≢true}
-use mathlib.Core.List.{append_assoc, append-nil}
-use native.Mathlib.Omega.{arith}
-use borrow.Author.Tests.{leb-true, leb-false}
-use Rattle.listing.specs.declared.core.Run.{Run}
+use Rattle.std.specs.Prelude.{◌≡◌, ℕ, zero, suc, ◌-◌, ◌<◌, ◌≤◌, Bool, true, false, cond, nat_le, List, [], ◌++◌, length}
+use Rattle.std.proofs.Common.{refl, ap, sym, ◌∙◌, append_assoc, append-nil, arith, leb-true, leb-false}
+use Rattle.std.proofs.lemmas.Bool.{false≢true}
+use Rattle.listing.specs.declared.inner.Run.{Run}
 use Rattle.listing.specs.Listing.{joined, listing}
 use Rattle.listing.specs.Run.{next, first, rest}
 use Rattle.listing.specs.Fitting.{Fill, filling}
@@ -44,7 +41,7 @@ by_more room s run h true e l c = cut_on room s run h l e (c e)
 by_more room s run h false e l c = cut_last room s run h l e
 
 by_room :
-    (room : ℕ) (s : List ℕ) (run : Run) (h : run.at < length s) (q : Bool) → leb (length (next s run).line) room ≡ q
+    (room : ℕ) (s : List ℕ) (run : Run) (h : run.at < length s) (q : Bool) → nat_le (length (next s run).line) room ≡ q
     → ((next s run).more ≡ true → Cut s (next s run).run (filling (room - length (next s run).line) s (next s run).run))
     → Cut s run (filling room s run)
 by_room room s run h true e c = by_more room s run h (next s run).more refl (leb-true _ _ e) c
@@ -54,7 +51,7 @@ by_room room s run h false e c = cut_full room s run h (leb-false _ _ e)
 cuts : (n room : ℕ) (s : List ℕ) (run : Run) → run.at < length s → length s - run.at ≤ n → Cut s run (filling room s run)
 cuts zero room s run h l = absurd (omega arith)
 cuts (suc n) room s run h l =
-    by_room room s run h (leb (length (next s run).line) room) refl
+    by_room room s run h (nat_le (length (next s run).line) room) refl
     (λ m.
     let a = next_ahead s run h m in
     cuts n (room - length (next s run).line) s (next s run).run a.1 (omega arith))

@@ -2,8 +2,8 @@
 use Rattle.std.specs.Prelude.{◌≡◌, ℕ, ◌+◌, ◌-◌, ◌<◌, ◌≤◌, Bool, true, cond, List, [], ◌∷◌, length, nat_le, nat_lt}
 use Rattle.writer.specs.Row.{Put}
 use Rattle.listing.specs.declared.Written.{Written}
-use Rattle.listing.specs.declared.core.Run.{Run}
-use Rattle.listing.specs.declared.core.Step.{Step}
+use Rattle.listing.specs.declared.inner.Run.{Run}
+use Rattle.listing.specs.declared.inner.Step.{Step}
 use Rattle.listing.specs.Listing.{lines, joined, listing}
 use Rattle.listing.specs.Run.{rest, after, Ready}
 

@@ -1,5 +1,5 @@
 -- What a script prints, from any bytes: `listing`. Bytes are cut at line feeds; what stands after the last one is no whole line.
-use Rattle.std.specs.Prelude.{ℕ, ◌+◌, ◌^◌, Bool, cond, ltb, List, [], ◌∷◌, ◌++◌, length, ◌==◌, nat_lt, slice_index}
+use Rattle.std.specs.Prelude.{ℕ, ◌+◌, ◌^◌, Bool, cond, List, [], ◌∷◌, ◌++◌, length, ◌==◌, nat_lt, slice_index}
 use Rattle.rules.specs.declared.Setup.{Setup}
 use Rattle.rules.specs.declared.Bench.{Bench}
 use Rattle.rules.specs.Numbers.{wrapped}
@@ -79,13 +79,13 @@ setup_of vs = record {
 unfoldable pub in_fields : Setup → Bool
 in_fields S =
     nat_lt S.window (2 ^ 32)
-    also ltb S.seqbits (2 ^ 32)
-    also ltb S.clockbits (2 ^ 32)
-    also ltb S.life (2 ^ 32)
-    also ltb S.rate (2 ^ 32)
-    also ltb S.seq (2 ^ 32)
-    also ltb S.sclock (2 ^ 32)
-    also ltb S.rclock (2 ^ 32)
+    also nat_lt S.seqbits (2 ^ 32)
+    also nat_lt S.clockbits (2 ^ 32)
+    also nat_lt S.life (2 ^ 32)
+    also nat_lt S.rate (2 ^ 32)
+    also nat_lt S.seq (2 ^ 32)
+    also nat_lt S.sclock (2 ^ 32)
+    also nat_lt S.rclock (2 ^ 32)
 
 -- all eight values are read, and the setup is judged; the events start on line 9
 unfoldable pub judged : Setup → List (List ℕ) → List (List ℕ)

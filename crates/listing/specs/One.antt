@@ -3,8 +3,8 @@ use Rattle.std.specs.Prelude.{◌≡◌, ℕ, Bool, List}
 use Rattle.std.proofs.Common.{ap, sym, ◌∙◌}
 use Rattle.writer.specs.One.{one_put}
 use Rattle.listing.specs.declared.Written.{Written}
-use Rattle.listing.specs.declared.core.Run.{Run}
-use Rattle.listing.specs.declared.core.Step.{Step}
+use Rattle.listing.specs.declared.inner.Run.{Run}
+use Rattle.listing.specs.declared.inner.Step.{Step}
 use Rattle.listing.specs.Run.{Next, WroteLine}
 use Rattle.listing.specs.Fitting.{Filled, Wrote}
 

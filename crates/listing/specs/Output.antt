@@ -1,7 +1,7 @@
 -- What a program writes that lends a row of `room` bytes: the first line, and then, as long as there is more, the row filled with
 -- whole lines. That its loop ends is shown where the loop is; `writes_the_listing` says what it has written then.
 use Rattle.std.specs.Prelude.{◌≡◌, ℕ, true, false, List, ◌++◌}
-use Rattle.listing.specs.declared.core.Run.{Run}
+use Rattle.listing.specs.declared.inner.Run.{Run}
 use Rattle.listing.specs.Run.{first}
 use Rattle.listing.specs.Fitting.{filling}
 

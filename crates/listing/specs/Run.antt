@@ -14,9 +14,9 @@ use Rattle.reader.specs.Values.{on_value}
 use Rattle.reader.specs.Lines.{line_of, on_line, setup_value}
 use Rattle.writer.specs.Row.{Put}
 use Rattle.writer.specs.Lines.{event_line}
-use Rattle.listing.specs.declared.core.Run.{Run}
-use Rattle.listing.specs.declared.core.Step.{Step}
-use Rattle.listing.specs.declared.core.begin.SetupLines.{SetupLines}
+use Rattle.listing.specs.declared.inner.Run.{Run}
+use Rattle.listing.specs.declared.inner.Step.{Step}
+use Rattle.listing.specs.declared.inner.begin.SetupLines.{SetupLines}
 use Rattle.listing.specs.Listing.{bad_input, bad_line, setup_line, outcome, events_from, setup_of, in_fields}
 
 -- one line written, whether the script has another, and where the run stands then

@@ -12,7 +12,7 @@ mod event;
 mod text;
 
 // Where a run stands: the place of the next line, its number, and the number of the next event.
-#[derive(Drop)]
+#[derive(Clone, Copy)]
 pub struct Run {
     pub at: usize,
     pub line: u64,
