@@ -1,12 +1,11 @@
 -- Of the bench's events only arriving data delivers units; and an event as the code gives it back, with its units in the lent row.
-use Rattle.std.proofs.Common.{◌≡◌, ℕ, ◌≤◌, Bool, true, false, cond, leb, List, [], ◌++◌, length, take, drop, refl, ap, ◌∙◌, arith, length-append}
-use mathlib.Core.Bool.{false≢true}
-use lib.Seq.{take-append_seam}
+use Rattle.std.proofs.Common.{◌≡◌, ℕ, Bool, true, false, cond, leb, List, [], length, drop, refl, ap, arith, length-append}
+use Rattle.std.proofs.lemmas.Bool.{false≢true}
+use Rattle.std.proofs.Math.Seq.{take-append_seam}
 use Rattle.rules.specs.declared.Bench.{Bench}
 use Rattle.rules.specs.declared.BenchDone.{BenchDone}
 use Rattle.rules.specs.Numbers.{Arith, wrapped}
 use Rattle.rules.specs.declared.Setup.{Setup}
-use Rattle.rules.specs.declared.Receiver.{Receiver}
 use Rattle.rules.specs.Rows.{laid}
 use Rattle.rules.specs.Malformed.{malformed_bench}
 use Rattle.rules.specs.Events.{Out, Event, accept, send, arrive, room, acknowledge, hear, dropd, dropa, dupd, dupa, tick, act}

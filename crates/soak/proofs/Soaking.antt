@@ -1,10 +1,10 @@
 -- A run, an event at a time.
-use Rattle.std.proofs.Common.{◌≡◌, ℕ, zero, suc, ◌-◌, ◌<◌, true, List, length, take, sym, refl, ap, subst, not-suc-le-zero, arith}
+use Rattle.std.proofs.Common.{◌≡◌, ℕ, zero, suc, ◌-◌, ◌<◌, true, List, take, sym, refl, ap, subst, not-suc-le-zero, arith}
 use Rattle.rules.specs.declared.Bench.{Bench}
 use Rattle.rules.specs.declared.BenchDone.{BenchDone}
 use Rattle.rules.specs.Numbers.{wrapped}
-use Rattle.rules.specs.Events.{Event, Out, act}
-use Rattle.rules.specs.Operations.{step, bench_done}
+use Rattle.rules.specs.Events.{Event, act}
+use Rattle.rules.specs.Operations.{step}
 use Rattle.rules.specs.Setups.{◌also◌, is_window, in_limits, in_ranges, admitted}
 use Rattle.rules.specs.Reached.{Reached}
 use Rattle.rules.proofs.Reached.{reached_act, reached_step}
@@ -32,7 +32,7 @@ pub soaked_none : (n x sum : ℕ) (b : Bench) → n ≡ 0 → soaked_from n x su
 unfolding soaked_from
 soaked_none n x sum b e = rw e
 
--- an event of the core on a bench that is reached is the step
+-- an inner event on a bench that is reached is the step
 pub ran_reached : {b : Bench} {row : List ℕ} {r : BenchDone} → Reached b → (e : Event)
     → Ran (act (wrapped b.sender.setup) b.sender.setup e b) row r → Ran (step wrapped e b) row r
 ran_reached g e h = rw (reached_act g e) h

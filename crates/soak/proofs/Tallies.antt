@@ -1,5 +1,5 @@
 -- The checksum, a unit at a time.
-use Rattle.std.proofs.Common.{◌≡◌, ℕ, suc, ◌+◌, ◌<◌, List, [], ◌∷◌, ◌++◌, length, get_or, take, refl, ap, ◌∙◌, add-one, take-suc}
+use Rattle.std.proofs.Common.{◌≡◌, ℕ, ◌+◌, ◌<◌, List, [], ◌∷◌, ◌++◌, length, get_or, take, refl, add-one, take-suc}
 use Rattle.soak.specs.Tally.{mixed, all_mixed}
 
 all_mixed_append : (s : ℕ) (l : List ℕ) (v : ℕ) → all_mixed s (l ++ v ∷ []) ≡ mixed (all_mixed s l) v

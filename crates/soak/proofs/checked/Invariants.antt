@@ -1,0 +1,10 @@
+-- What is left of the run gives the answer.
+use Rattle.std.proofs.Common.{◌≡◌, length}
+use Rattle.soak.specs.Run.{soaked_from}
+use Rattle.soak.proofs.checked.Given as goal
+
+abbrev pub invariant-loop-left : goal.invariant-loop-left
+invariant-loop-left l = (length l.row ≡ 64) × (soaked_from l.initial.left l.initial.x l.initial.sum l.initial.b ≡ soaked_from l.left l.x l.sum l.b)
+
+abbrev pub decreases-loop-left : goal.decreases-loop-left
+decreases-loop-left l = l.left
