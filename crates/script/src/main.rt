@@ -1,26 +1,51 @@
 // Runs the script on standard input, and writes its listing to standard output.
 #![tactic(auto)]
 
-use libc::{STDIN_FILENO, STDOUT_FILENO};
+ghost use Rattle.std.specs.Prelude.{◌<◌, ◌≤◌, length, take, IfOk, OnOk};
+ghost use Rattle.std.specs.Io.KnownBytes.{Consumes, Appends, IsAtEnd};
+ghost use Rattle.listing.specs.Listing.{listing};
 
-// The first line, and then rows of whole lines as long as there are more: what they hold, joined, is the listing
-// (`writes_the_listing` of the crate listing).
-fn write_listing(src: &[u8]) {
+use std::io::{self, Read, Write};
+
+// Reads until buf is full or the input ends: how many bytes it put at the start of buf.
+fn read_full<R: Read>(input: &mut R, buf: &mut [u8]) -> io::Result<usize>
+    ensures within { IfOk result (λ n. n ≤ length buf.new) }
+    ensures bytes { IfOk result (λ n.
+        Consumes (R.remaining input.old) (R.remaining input.new) (take n buf.new)) }
+    ensures whole { IfOk result (λ n. n < length buf.new → IsAtEnd (R.remaining input.new)) }
+{
+    let mut done = 0;
+    while done < buf.len() {
+        let n = input.read(&mut buf[done..])?;
+        if n == 0 {
+            break;
+        }
+        done += n;
+    }
+    Ok(done)
+}
+
+// The first line, and then rows of whole lines as long as there are more: what they hold, joined, is the listing.
+fn write_listing<W: Write>(output: &mut W, src: &[u8]) -> io::Result<()>
+    ensures { OnOk result
+        (Appends (W.contents output.old) (W.contents output.new) (listing src.now)) }
+{
     let mut out = [0u8; 16384];
     let mut s = listing::inner::first_line(src, &mut out);
     let n = s.len;
-    io::write_all(STDOUT_FILENO, &out[..n]);
+    output.write_all(&out[..n])?;
     while s.more {
         let run = s.run;
         s = listing::inner::fill(src, run, &mut out, 0);
         let n = s.len;
-        io::write_all(STDOUT_FILENO, &out[..n]);
+        output.write_all(&out[..n])?;
     }
+    Ok(())
 }
 
 // One byte more is read than a script may have, so that a script that is too long is seen.
-fn main() {
+fn main(rt: HostRuntime) -> io::Result<()> {
     let mut script = [0u8; 65537];
-    let n = io::read_full(STDIN_FILENO, &mut script);
-    write_listing(&script[..n]);
+    let n = read_full(&mut rt.stdin(), &mut script)?;
+    write_listing(&mut rt.stdout(), &script[..n])
 }
