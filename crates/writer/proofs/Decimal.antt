@@ -1,6 +1,7 @@
--- The digits that `io::decimal` writes are those of `decimal`.
-use Rattle.std.proofs.Common.{◌≡◌, ℕ, suc, zero, ◌+◌, ◌-◌, ◌*◌, ◌/◌, ◌%◌, ◌^◌, ◌<◌, ◌≤◌, arith, pow-suc, le-div_iff_mul-le, div-lt_iff_lt-mul, mod-eq_of_lt, lt-ltb, le-ltb}
-use native.Mathlib.Nat.{one-le-pow}
+-- The digits that `io::decimal` writes are those of `decimal`, and there are at most 20.
+use Rattle.std.proofs.Common.{◌≡◌, ℕ, suc, zero, ◌+◌, ◌-◌, ◌*◌, ◌/◌, ◌%◌, ◌^◌, ◌<◌, ◌≤◌, arith, pow-suc, le-div_iff_mul-le, div-lt_iff_lt-mul, mod-eq_of_lt, lt-ltb, le-ltb, refl, Bool, true, false, nat_lt}
+use native.Mathlib.Nat.{one-le-pow, pow-le-pow_right}
+use borrow.Author.Tests.{ltb-true, ltb-false}
 use Rattle.io.specs.Digits.{last_digits, hex_digit_ascii, IsDigitCount}
 use Rattle.writer.specs.Decimal.{decimal_on, decimal}
 
@@ -34,3 +35,14 @@ same_digits (suc f) (suc (suc i)) n h w =
 pub decimal_digits : (k n : ℕ) → IsDigitCount 10 1 n k → last_digits 10 k n ≡ decimal n
 unfolding decimal
 decimal_digits k n w = same_digits n k n (omega arith) w
+
+few_by : (k n : ℕ) (q : Bool) → nat_lt 20 k ≡ q → n < 2 ^ 64 → IsDigitCount 10 1 n k → k ≤ 20
+few_by k n true e h w =
+    let l : 20 < k = ltb-true 20 k e in
+    let p : 10 ^ 20 ≤ 10 ^ (k - 1) = pow-le-pow_right {n = 10} (omega arith) {i = 20} {j = k - 1} (omega arith) in
+    absurd (omega (arith, w.2 (omega arith)))
+few_by k n false e h w = ltb-false 20 k e
+
+-- a 64-bit number has at most 20 digits
+pub decimal_few : (k n : ℕ) → n < 2 ^ 64 → IsDigitCount 10 1 n k → k ≤ 20
+decimal_few k n h w = few_by k n (nat_lt 20 k) refl h w
