@@ -108,7 +108,7 @@ module _ (room : ℕ) (s : List ℕ) where
     unfolding listing joined filling
     start_on e =
         let n = first s in
-        rw (not_less, first_lines s, taken_on room n.line n.more (rest s n.run) l e, long_on room n.line n.more (rest s n.run) l e) (refl, refl)
+        rw (not_less (length (listing s)) room, first_lines s, taken_on room n.line n.more (rest s n.run) l e, long_on room n.line n.more (rest s n.run) l e) (refl, refl)
 
 -- ---- a row that is being filled: what is left from `here`, put at `at`, gives what the whole gives
 pub record Left (s old : List ℕ) (from : ℕ) (run : Run) (out : List ℕ) (at : ℕ) (here : Run) : Type 0 where

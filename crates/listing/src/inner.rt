@@ -29,6 +29,7 @@ pub struct Step {
 }
 
 // The first line of the listing: the setup lines are read, and the setup is judged.
+#[tactic(auto, using(crate::proofs::Setups::first_long, crate::proofs::Setups::opened_last))]
 pub fn first_line(src: &[u8], out: &mut [u8]) -> Step
     requires { 2048 ≤ length out.old }
     ensures { Opened src.now out.old out.new result }

@@ -1,5 +1,6 @@
 -- `apply` meets its contract: each event is the bench's operation, and only arriving data delivers units.
-use Rattle.listing.proofs.Units.{accept_none, send_none, hear_none, dropd_none, dropa_none, dupd_none, dupa_none, room_none, ack_none, tick_none, applied_none}
+use Rattle.std.proofs.Common.{rules}
+use Rattle.listing.proofs.Units.{accept_none, send_none, hear_none, dropd_none, dropa_none, dupd_none, dupa_none, room_none, ack_none, tick_none, applied_none, applied_data}
 use Rattle.listing.proofs.inner.event.apply.Goals as goal
 
 pub returns-in-Accept : goal.returns-in-Accept
@@ -7,6 +8,11 @@ returns-in-Accept c = applied_none _ _ _ _ _ c.in-Accept.is c.accept.ensures (ac
 
 pub returns-in-Send : goal.returns-in-Send
 returns-in-Send c = applied_none _ _ _ _ _ c.in-Send.is c.send.ensures (send_none _ _)
+
+pub returns-in-Data : goal.returns-in-Data
+returns-in-Data c =
+    let d = c.«data» in
+    applied_data _ _ d.new.row _ _ c.args.row.now c.in-Data.is c.requires (search rules) d.ensures.gives d.ensures.lent
 
 pub returns-in-Hear : goal.returns-in-Hear
 returns-in-Hear c = applied_none _ _ _ _ _ c.in-Hear.is c.hear.ensures (hear_none _ _)
