@@ -50,6 +50,6 @@ returns c =
     ap (λ (T : Setup). arriving (wrapped T) T c.take-taking.result.packet b.receiver) c.requires.same_receiver
     ∙ ap (λ (q : BareData). arriving (wrapped S) S q b.receiver) p in
     record {
-      gives = rw (c.data-arriving.ensures.gives ∙ ap receiver_took same, c.take-taking.ensures, le-ltb _ _ c.if-row-w.false, h);
+      gives = simp (c.data-arriving.ensures.gives ∙ ap receiver_took same, c.take-taking.ensures, le-ltb _ _ c.if-row-w.false, h);
       lent = rw (le-ltb _ _ c.if-row-w.false, h) (c.data-arriving.ensures.lent ∙ ap (λ (o : Out Receiver). laid o.units c.args.row.now) same);
     }

@@ -12,7 +12,7 @@ returns-then-sending-ne0 c =
     let b = c.args.b in
     let e = ap (λ (m : SenderSent). m.answer) c.send-sending.ensures in
     let h = sending_refused (wrapped b.sender.setup) b.sender.setup c.args.k b.sender e c.if-sending-ne0.true in
-    rw (h.1, h.0)
+    simp (h.1, h.0)
 
 pub returns : goal.returns
 unfolding act
