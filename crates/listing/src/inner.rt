@@ -21,7 +21,7 @@ pub struct Run {
 }
 
 // How many bytes were written, whether the script has another line to run, and where the run stands then.
-#[derive(Drop)]
+#[derive(Clone, Copy)]
 pub struct Step {
     pub len: usize,
     pub more: bool,

@@ -6,7 +6,7 @@ ghost use Rattle.listing.specs.Fitting.{Wrote};
 pub mod inner;
 
 // How many bytes of the row were written, and whether they are the whole listing.
-#[derive(Drop)]
+#[derive(Clone, Copy)]
 pub struct Written {
     pub len: usize,
     pub whole: bool,

@@ -9,7 +9,7 @@ ghost use Rattle.reader.specs.Lines.{same, place_of, field_of, only_one, pick, e
 pub mod inner;
 
 // What an event line asks for.
-#[derive(Drop)]
+#[derive(Clone, Copy)]
 pub enum Event {
     Accept(u64),
     Send(u64),
@@ -24,21 +24,21 @@ pub enum Event {
     Tick,
 }
 
-#[derive(Drop)]
+#[derive(Clone, Copy)]
 pub enum Line {
     Good(Event),
     Bad,
 }
 
 // A decimal value, or none.
-#[derive(Drop)]
+#[derive(Clone, Copy)]
 pub enum Value {
     Is(u64),
     Bad,
 }
 
 // A key's place in its table, from 1, and the value after it.
-#[derive(Drop)]
+#[derive(Clone, Copy)]
 enum Field {
     Is(usize, u64),
     Bad,

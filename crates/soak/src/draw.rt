@@ -2,7 +2,7 @@
 ghost use Rattle.std.specs.Prelude.{◌≡◌};
 ghost use Rattle.soak.specs.Draw.{first_draw, next_draw, lapse, chosen, as_event};
 
-#[derive(Drop)]
+#[derive(Clone, Copy)]
 pub enum Drawn {
     Accept(u64),
     Send(u64),

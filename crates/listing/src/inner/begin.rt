@@ -9,7 +9,7 @@ use reader::Value;
 use rules::{BenchDone, Setup};
 
 // The number of the first bad setup line, or 0; the place after the lines; their values.
-#[derive(Drop)]
+#[derive(Clone, Copy)]
 pub struct SetupLines {
     pub bad: u64,
     pub at: usize,
