@@ -1,15 +1,17 @@
--- What was written, and what is left after it, is the listing.
-use Rattle.std.proofs.Common.{◌≡◌, ℕ, ◌-◌, ◌<◌, Bool, true, false, cond, List, [], ◌++◌, length, take, refl, ap, sym, ◌∙◌, append_assoc, append-nil, subst, Option}
-use Rattle.std.specs.Io.KnownBytes.{Appends}
+-- What was written, and what is left after it, is the listing; and what a write that failed leaves is a beginning of it.
+use Rattle.std.proofs.Common.{◌≡◌, ℕ, ◌+◌, ◌-◌, ◌<◌, Bool, true, false, cond, List, [], ◌++◌, length, take, drop, refl, ap, sym, ◌∙◌, append_assoc, append-nil, subst, take-append-drop, take-add, length-drop, Option, None, Some, Result, Ok, Err, OnErr}
+use Rattle.std.proofs.Math.Seq.{take-length}
+use Rattle.std.specs.Io.KnownBytes.{Appends, Keeps}
 use Rattle.std.proofs.KnownBytes.{Appends-trans}
 use Rattle.writer.proofs.Row.{put_start}
 use Rattle.listing.specs.declared.inner.Run.{Run}
 use Rattle.listing.specs.declared.inner.Step.{Step}
 use Rattle.listing.specs.Listing.{joined, listing}
 use Rattle.listing.specs.Run.{first, rest, Opened}
-use Rattle.listing.specs.Fitting.{Filled, filling}
+use Rattle.listing.specs.Fitting.{Filled}
 use Rattle.listing.proofs.Setups.{first_lines}
 use Rattle.listing.proofs.Whole.{fill_cuts}
+use Rattle.script.specs.Failed.{AppendsStart}
 
 -- what is left of the listing after a step
 abbrev pub left : List ℕ → Bool → Run → List ℕ
@@ -26,25 +28,79 @@ unfolding joined
 joined_left s true run = refl
 joined_left s false run = refl
 
+-- the first line and what is left after it; a row of lines and what is left after it
+first_row : {s d e : List ℕ} {r : Step} → Opened s d e r → take r.len e ++ left s r.more r.run ≡ listing s
+unfolding listing joined
+first_row {s} o =
+    let n = first s in
+    rw (put_start o.row, o.more, o.then) (ap (λ t. n.line ++ t) (sym (joined_left s n.more n.run)) ∙ sym (ap joined (first_lines s)))
+
+more_row : {s d e : List ℕ} {run : Run} {r : Step} → run.at < length s → Filled s run d e 0 r
+    → take r.len e ++ left s r.more r.run ≡ joined (rest s run)
+more_row {s} {d} {run = run} h f = rw (put_start f.row, f.more, f.then) (sym (fill_cuts (length d - 0) s run h).whole)
+
 pub wrote_first :
     {a b : Option (List ℕ)} {s d e : List ℕ} {r : Step} → Opened s d e r → Appends a b (take r.len e) → Wrote a b s r
-unfolding listing joined
-wrote_first {s = s} {r = r} o g =
-    let n = first s in
-    record {
-      text = n.line;
-      grown = rw (put_start o.row) at g;
-      whole = rw (o.more, o.then) (ap (λ t. n.line ++ t) (sym (joined_left s n.more n.run)) ∙ sym (ap joined (first_lines s)));
-    }
+wrote_first {e = e} {r = r} o g = record { text = take r.len e; grown = g; whole = first_row o }
 
 pub wrote_more :
     {a b c : Option (List ℕ)} {s d e : List ℕ} {r r' : Step} → Wrote a b s r → r.more ≡ true → r.run.at < length s
     → Filled s r.run d e 0 r' → Appends b c (take r'.len e) → Wrote a c s r'
-wrote_more {a} {b} {c} {s} {d} {e} {r} {r'} w m h f g = record {
-  text = w.text ++ (filling (length d - 0) s r.run).text;
-  grown = Appends-trans a b c _ _ w.grown (rw (put_start f.row) at g);
-  whole = rw (f.more, f.then, append_assoc) (ap (λ t. w.text ++ t) (sym (fill_cuts (length d - 0) s r.run h).whole) ∙ (rw m at w.whole));
+wrote_more {a} {b} {c} {e = e} {r' = r'} w m h f g = record {
+  text = w.text ++ take r'.len e;
+  grown = Appends-trans a b c _ _ w.grown g;
+  whole = rw append_assoc (ap (λ t. w.text ++ t) (more_row h f) ∙ (rw m at w.whole));
 }
 
 pub wrote_all : {a b : Option (List ℕ)} {s : List ℕ} {r : Step} → Wrote a b s r → r.more ≡ false → Appends a b (listing s)
 wrote_all {a} {b} w m = subst (Appends a b) (sym (append-nil _) ∙ rw m at w.whole) w.grown
+
+-- ---- a write that fails
+-- a fact of a failure, at whatever was returned
+pub on_err : {T E P : Type 0} (r : Result T E) → P → OnErr r P
+on_err (Ok x) p = tt
+on_err (Err e) p = p
+
+-- what was written before stays
+pub appends_kept : (a b c : Option (List ℕ)) (bs : List ℕ) → Appends a b bs → Keeps b c → Appends a c bs
+appends_kept None b c bs p q = tt
+appends_kept (Some x) None c bs p q = absurd p
+appends_kept (Some x) (Some y) None bs p q = absurd q
+appends_kept (Some x) (Some y) (Some z) bs p q = q ∙ p
+
+-- the first bytes of buf, and n more of the rest of it
+pub appends_more : (a b c : Option (List ℕ)) (done n : ℕ) (buf : List ℕ) → Appends a b (take done buf)
+    → Appends b c (take n (take (length buf - done) (drop done buf))) → Appends a c (take (done + n) buf)
+appends_more a b c done n buf p q =
+    let all : take (length buf - done) (drop done buf) ≡ drop done buf = rw (← length-drop done buf) (take-length (drop done buf)) in
+    rw take-add (Appends-trans a b c _ _ p (rw all at q))
+
+pub appends_start : (a b : Option (List ℕ)) (k : ℕ) (buf : List ℕ) → Appends a b (take k buf) → AppendsStart a b buf
+appends_start a b k buf p = record { text = take k buf; rest = drop k buf; grown = p; whole = take-append-drop k buf }
+
+-- a beginning of what has more behind it, and of what comes after other bytes
+start_within : {a b : Option (List ℕ)} {t w : List ℕ} (u : List ℕ) → AppendsStart a b t → t ++ u ≡ w → AppendsStart a b w
+start_within u g e = record {
+  text = g.text;
+  rest = g.rest ++ u;
+  grown = g.grown;
+  whole = rw (← append_assoc) (ap (λ x. x ++ u) g.whole ∙ e);
+}
+
+start_after : {a b c : Option (List ℕ)} {u : List ℕ} (t : List ℕ) → Appends a b t → AppendsStart b c u → AppendsStart a c (t ++ u)
+start_after {a} {b} {c} t p g = record {
+  text = t ++ g.text;
+  rest = g.rest;
+  grown = Appends-trans a b c _ _ p g.grown;
+  whole = rw append_assoc (ap (λ x. t ++ x) g.whole);
+}
+
+-- so what was written when a row is written in part is a beginning of the listing
+pub start_first :
+    {a b : Option (List ℕ)} {s d e : List ℕ} {r : Step} → Opened s d e r → AppendsStart a b (take r.len e) → AppendsStart a b (listing s)
+start_first o g = start_within _ g (first_row o)
+
+pub start_more :
+    {a b c : Option (List ℕ)} {s d e : List ℕ} {r r' : Step} → Wrote a b s r → r.more ≡ true → r.run.at < length s
+    → Filled s r.run d e 0 r' → AppendsStart b c (take r'.len e) → AppendsStart a c (listing s)
+start_more {a} {c = c} w m h f g = subst (AppendsStart a c) (rw m at w.whole) (start_after w.text w.grown (start_within _ g (more_row h f)))

@@ -1,18 +1,21 @@
 // Runs the script on standard input, and writes its listing to standard output.
 #![tactic(auto)]
 
-ghost use Rattle.std.specs.Prelude.{◌<◌, ◌≤◌, length, take, IfOk, OnOk};
+ghost use Rattle.std.specs.Prelude.{◌<◌, ◌≤◌, length, take, IfOk, OnOk, OnErr};
 ghost use Rattle.std.specs.Io.KnownBytes.{Consumes, Appends, IsAtEnd};
 ghost use Rattle.listing.specs.Listing.{listing};
+ghost use Rattle.script.specs.Failed.{AppendsStart, ConsumesStart};
 
 use std::io::{self, Read, Write};
 
-// Reads until buf is full or the input ends: how many bytes it put at the start of buf.
+// Reads until buf is full or the input ends: how many bytes it put at the start of buf. Where a read fails, what is gone from the
+// input stands there.
 fn read_full<R: Read>(input: &mut R, buf: &mut [u8]) -> io::Result<usize>
     ensures within { IfOk result (λ n. n ≤ length buf.new) }
     ensures bytes { IfOk result (λ n.
         Consumes (R.remaining input.old) (R.remaining input.new) (take n buf.new)) }
     ensures whole { IfOk result (λ n. n < length buf.new → IsAtEnd (R.remaining input.new)) }
+    ensures err { OnErr result (ConsumesStart (R.remaining input.old) (R.remaining input.new) buf.new) }
 {
     let mut done = 0;
     while done < buf.len() {
@@ -25,20 +28,39 @@ fn read_full<R: Read>(input: &mut R, buf: &mut [u8]) -> io::Result<usize>
     Ok(done)
 }
 
-// The first line, and then rows of whole lines as long as there are more: what they hold, joined, is the listing.
+// Writes all of buf. Where a write fails, or takes nothing, what was written is a beginning of buf.
+fn write_full<W: Write>(output: &mut W, buf: &[u8]) -> io::Result<()>
+    ensures ok { OnOk result (Appends (W.contents output.old) (W.contents output.new) buf.now) }
+    ensures err { OnErr result (AppendsStart (W.contents output.old) (W.contents output.new) buf.now) }
+{
+    let mut done = 0;
+    while done < buf.len() {
+        let n = output.write(&buf[done..])?;
+        if n == 0 {
+            return Err(io::ErrorKind::WriteZero.into());
+        }
+        done += n;
+    }
+    Ok(())
+}
+
+// The first line, and then rows of whole lines as long as there are more: what they hold, joined, is the listing. Where a write
+// fails, what was written is a beginning of the listing.
 fn write_listing<W: Write>(output: &mut W, src: &[u8]) -> io::Result<()>
-    ensures { OnOk result
+    ensures ok { OnOk result
         (Appends (W.contents output.old) (W.contents output.new) (listing src.now)) }
+    ensures err { OnErr result
+        (AppendsStart (W.contents output.old) (W.contents output.new) (listing src.now)) }
 {
     let mut out = [0u8; 16384];
     let mut s = listing::inner::first_line(src, &mut out);
     let n = s.len;
-    output.write_all(&out[..n])?;
+    write_full(output, &out[..n])?;
     while s.more {
         let run = s.run;
         s = listing::inner::fill(src, run, &mut out, 0);
         let n = s.len;
-        output.write_all(&out[..n])?;
+        write_full(output, &out[..n])?;
     }
     Ok(())
 }

@@ -1,0 +1,11 @@
+-- What was written so far is the first `done` bytes of buf.
+use Rattle.std.proofs.Common.{◌-◌, ◌≤◌, length, take}
+use Rattle.std.specs.Io.KnownBytes.{Appends}
+use Rattle.script.proofs.write_full.Given as goal
+
+abbrev pub invariant-loop-done : goal.invariant-loop-done
+invariant-loop-done g l =
+    (l.done ≤ length l.buf) × Appends (g.W.Write.contents l.fn.output) (g.W.Write.contents l.output) (take l.done l.buf)
+
+abbrev pub decreases-loop-done : goal.decreases-loop-done
+decreases-loop-done g l = length l.buf - l.done
