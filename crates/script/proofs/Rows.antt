@@ -1,7 +1,7 @@
 -- What was written, and what is left after it, is the listing; and what a write that failed leaves is a beginning of it.
-use Rattle.std.proofs.Common.{◌≡◌, ℕ, ◌+◌, ◌-◌, ◌<◌, Bool, true, false, cond, List, [], ◌++◌, length, take, drop, refl, ap, sym, ◌∙◌, append_assoc, append-nil, subst, take-append-drop, take-add, length-drop, Option, None, Some, Result, Ok, Err, OnErr}
+use Rattle.std.proofs.Common.{◌≡◌, ℕ, ◌+◌, ◌-◌, ◌<◌, Bool, true, false, cond, List, [], ◌++◌, length, take, drop, refl, ap, sym, ◌∙◌, append_assoc, subst, take-append-drop, take-add, length-drop, Option, Result, Ok, Err, OnErr}
 use Rattle.std.proofs.Math.Seq.{take-length}
-use Rattle.std.specs.Io.KnownBytes.{Appends, Keeps}
+use Rattle.std.specs.Io.KnownBytes.{Appends}
 use Rattle.std.proofs.KnownBytes.{Appends-trans}
 use Rattle.writer.proofs.Row.{put_start}
 use Rattle.listing.specs.declared.inner.Run.{Run}
@@ -52,21 +52,11 @@ wrote_more {a} {b} {c} {e = e} {r' = r'} w m h f g = record {
   whole = rw append_assoc (ap (λ t. w.text ++ t) (more_row h f) ∙ (rw m at w.whole));
 }
 
-pub wrote_all : {a b : Option (List ℕ)} {s : List ℕ} {r : Step} → Wrote a b s r → r.more ≡ false → Appends a b (listing s)
-wrote_all {a} {b} w m = subst (Appends a b) (sym (append-nil _) ∙ rw m at w.whole) w.grown
-
 -- ---- a write that fails
 -- a fact of a failure, at whatever was returned
 pub on_err : {T E P : Type 0} (r : Result T E) → P → OnErr r P
 on_err (Ok x) p = tt
 on_err (Err e) p = p
-
--- what was written before stays
-pub appends_kept : (a b c : Option (List ℕ)) (bs : List ℕ) → Appends a b bs → Keeps b c → Appends a c bs
-appends_kept None b c bs p q = tt
-appends_kept (Some x) None c bs p q = absurd p
-appends_kept (Some x) (Some y) None bs p q = absurd q
-appends_kept (Some x) (Some y) (Some z) bs p q = q ∙ p
 
 -- the first bytes of buf, and n more of the rest of it
 pub appends_more : (a b c : Option (List ℕ)) (done n : ℕ) (buf : List ℕ) → Appends a b (take done buf)
