@@ -1,282 +1,158 @@
-// The bench's events on a bench that is not malformed, by value, and the test of whether it is. Each event is its part's, with the
-// part put back.
+// The bench's events in place, on a bench that is not malformed, and the test of whether it is. Each event is its parts'.
+// What an admitted setup and a fit state have stays a `requires`: both are public and by value, others too, so a type that holds it
+// would stand beside each, and be copied into and out of at each event.
+#![tactic(auto, unfolding(rules::specs::Events::act))]
+
 ghost use Rattle.std.specs.Prelude.{◌≡◌, length};
 ghost use Rattle.rules.specs.Numbers.{wrapped};
-ghost use Rattle.rules.specs.Rows.{laid};
 ghost use Rattle.rules.specs.Parts.{fresh_bench};
+ghost use Rattle.rules.specs.Malformed.{formed_bench};
 ghost use Rattle.rules.specs.Fit.{FitSetup, FitBench};
 ghost use Rattle.rules.specs.Events.{accept, send, arrive, room, acknowledge, hear, dropd, dropa, dupd, dupa, tick, act};
-ghost use Rattle.rules.specs.Operations.{bench_done};
-ghost use Rattle.bench.specs.Parts.{same_setups, all_formed, OneSetup};
+ghost use Rattle.rules.specs.Asked.{event_of};
+ghost use Rattle.rules.specs.Operations.{Does, Counts};
+ghost use Rattle.bench.specs.Parts.{same_setups};
 
-use rules::{Bench, BenchDone, Setup};
+use rules::{Bench, Event, Refusal, Setup};
 
 pub fn first(s: Setup) -> Bench
     ensures { result ≡ fresh_bench s }
 {
-    let sender = sender::inner::first(s);
-    let receiver = receiver::inner::first(s);
-    let datas = datas::inner::empty(s);
-    let acks = acks::inner::empty(s);
     Bench {
-        sender,
-        receiver,
-        datas,
-        acks,
+        sender: sender::inner::first(s),
+        receiver: receiver::inner::first(s),
+        datas: channel::inner::empty(s),
+        acks: channel::inner::empty(s),
     }
 }
 
 // The four parts have one setup.
-pub fn one_setup(b: Bench) -> bool
-    ensures { result ≡ same_setups b }
+fn one_setup(b: &Bench) -> bool
+    ensures { result ≡ same_setups b.now }
 {
     let s = b.sender.setup;
-    let r = b.receiver.setup;
-    let d = b.datas.setup;
-    let a = b.acks.setup;
-    setup::same(s, r) & setup::same(s, d) & setup::same(s, a)
+    (s == b.receiver.setup) & (s == b.datas.setup) & (s == b.acks.setup)
 }
 
-// Each part is as it should be, for one setup that is admitted.
-pub fn parts_formed(b: Bench) -> bool
-    requires { FitSetup b.sender.setup × OneSetup b }
-    ensures { result ≡ all_formed b }
+// Not malformed, for a setup that is admitted: the four parts have it, and each is as it should be.
+pub fn formed(b: &Bench) -> bool
+    requires { FitSetup b.now.sender.setup }
+    ensures { result ≡ formed_bench wrapped b.now.sender.setup b.now }
 {
-    let s = b.sender;
-    let r = b.receiver;
-    let d = b.datas;
-    let a = b.acks;
-    sender::inner::formed(s)
-        & receiver::inner::formed(r)
-        & datas::inner::formed(d)
-        & acks::inner::formed(a)
+    one_setup(b)
+        && sender::inner::formed(&b.sender)
+            & receiver::inner::formed(&b.receiver)
+            & channel::inner::formed(&b.datas)
+            & channel::inner::formed(&b.acks)
 }
 
-pub fn accept(b: Bench, unit: u64) -> BenchDone
-    requires { FitBench b }
-    ensures { result ≡ bench_done (act (wrapped b.sender.setup) b.sender.setup (accept unit) b) }
+pub fn accept(b: &mut Bench, unit: u64) -> Result<(), Refusal>
+    requires { FitBench b.old }
+    ensures { Does (act (wrapped b.old.sender.setup) b.old.sender.setup (accept unit) b.old) result b.new }
 {
-    let s = b.sender;
-    let accepting = sender::inner::accept(s, unit);
-    let accepted = accepting.sender;
-    let mut next = b;
-    next.sender = accepted;
-    BenchDone {
-        answer: accepting.answer,
-        count: 0,
-        bench: next,
-    }
+    sender::inner::accept(&mut b.sender, unit)
 }
 
-pub fn send(b: Bench, k: u64) -> BenchDone
-    requires { FitBench b }
-    ensures { result ≡ bench_done (act (wrapped b.sender.setup) b.sender.setup (send k) b) }
+pub fn send(b: &mut Bench, k: u64) -> Result<(), Refusal>
+    requires { FitBench b.old }
+    ensures { Does (act (wrapped b.old.sender.setup) b.old.sender.setup (send k) b.old) result b.new }
 {
-    let s = b.sender;
-    let sending = sender::inner::send(s, k);
-    if sending.answer != 0 {
-        return BenchDone {
-            answer: sending.answer,
-            count: 0,
-            bench: b,
-        };
-    }
-    let c = b.datas;
-    let p = sending.packet;
-    let adding = datas::inner::add(c, p);
-    let sent = adding.channel;
-    let mut next = b;
-    next.datas = sent;
-    BenchDone {
-        answer: adding.answer,
-        count: 0,
-        bench: next,
-    }
+    let p = sender::inner::send(&b.sender, k)?;
+    channel::inner::add(&mut b.datas, p)
 }
 
-pub fn data(b: Bench, j: u64, row: &mut [u64]) -> BenchDone
-    requires { FitBench b }
-    ensures gives { result ≡ bench_done (act (wrapped b.sender.setup) b.sender.setup (arrive j (length row.old)) b) }
-    ensures lent { row.new ≡ laid (act (wrapped b.sender.setup) b.sender.setup (arrive j (length row.old)) b).units row.old }
+// A packet that is found is gone from its channel, whatever the receiver answers.
+pub fn data(b: &mut Bench, j: u64, row: &mut [u64]) -> Result<usize, Refusal>
+    requires { FitBench b.old }
+    ensures { Counts (act (wrapped b.old.sender.setup) b.old.sender.setup (arrive j (length row.old)) b.old) result b.new row.old row.new }
 {
-    let w = b.sender.setup.window as usize;
-    if row.len() < w {
-        return BenchDone {
-            answer: 8,
-            count: 0,
-            bench: b,
-        };
+    if row.len() < b.sender.setup.window as usize {
+        return Err(Refusal::ShortRow);
     }
-    let c = b.datas;
-    let taking = datas::inner::take(c, j);
-    if taking.answer != 0 {
-        return BenchDone {
-            answer: taking.answer,
-            count: 0,
-            bench: b,
-        };
-    }
-    let r = b.receiver;
-    let p = taking.packet;
-    let arriving = receiver::inner::data(r, p, row);
-    let taken = taking.channel;
-    let arrived = arriving.receiver;
-    let mut next = b;
-    next.datas = taken;
-    next.receiver = arrived;
-    BenchDone {
-        answer: arriving.answer,
-        count: arriving.count,
-        bench: next,
-    }
+    let p = channel::inner::take(&mut b.datas, j)?;
+    receiver::inner::data(&mut b.receiver, p, row)
 }
 
-pub fn room(b: Bench) -> BenchDone
-    requires { FitBench b }
-    ensures { result ≡ bench_done (act (wrapped b.sender.setup) b.sender.setup room b) }
+pub fn room(b: &mut Bench) -> Result<(), Refusal>
+    requires { FitBench b.old }
+    ensures { Does (act (wrapped b.old.sender.setup) b.old.sender.setup room b.old) result b.new }
 {
-    let r = b.receiver;
-    let opening = receiver::inner::room(r);
-    let opened = opening.receiver;
-    let mut next = b;
-    next.receiver = opened;
-    BenchDone {
-        answer: opening.answer,
-        count: 0,
-        bench: next,
-    }
+    receiver::inner::room(&mut b.receiver)
 }
 
-pub fn ack(b: Bench) -> BenchDone
-    requires { FitBench b }
-    ensures { result ≡ bench_done (act (wrapped b.sender.setup) b.sender.setup acknowledge b) }
+pub fn ack(b: &mut Bench) -> Result<(), Refusal>
+    requires { FitBench b.old }
+    ensures { Does (act (wrapped b.old.sender.setup) b.old.sender.setup acknowledge b.old) result b.new }
 {
-    let r = b.receiver;
-    let p = receiver::inner::ack(r);
-    let c = b.acks;
-    let adding = acks::inner::add(c, p);
-    let acked = adding.channel;
-    let mut next = b;
-    next.acks = acked;
-    BenchDone {
-        answer: adding.answer,
-        count: 0,
-        bench: next,
-    }
+    let p = receiver::inner::ack(&b.receiver);
+    channel::inner::add(&mut b.acks, p)
 }
 
-pub fn hear(b: Bench, j: u64) -> BenchDone
-    requires { FitBench b }
-    ensures { result ≡ bench_done (act (wrapped b.sender.setup) b.sender.setup (hear j) b) }
+// An acknowledgement that is found is gone from its channel, whatever the sender answers.
+pub fn hear(b: &mut Bench, j: u64) -> Result<(), Refusal>
+    requires { FitBench b.old }
+    ensures { Does (act (wrapped b.old.sender.setup) b.old.sender.setup (hear j) b.old) result b.new }
 {
-    let c = b.acks;
-    let taking = acks::inner::take(c, j);
-    if taking.answer != 0 {
-        return BenchDone {
-            answer: taking.answer,
-            count: 0,
-            bench: b,
-        };
-    }
-    let s = b.sender;
-    let p = taking.packet;
-    let hearing = sender::inner::hear(s, p);
-    let taken = taking.channel;
-    let heard = hearing.sender;
-    let mut next = b;
-    next.acks = taken;
-    next.sender = heard;
-    BenchDone {
-        answer: hearing.answer,
-        count: 0,
-        bench: next,
-    }
+    let p = channel::inner::take(&mut b.acks, j)?;
+    sender::inner::hear(&mut b.sender, p)
 }
 
-pub fn dropd(b: Bench, j: u64) -> BenchDone
-    requires { FitBench b }
-    ensures { result ≡ bench_done (act (wrapped b.sender.setup) b.sender.setup (dropd j) b) }
+// Two names for each fault, one of each channel, as the events have them; the work is the one of `channel`.
+pub fn dropd(b: &mut Bench, j: u64) -> Result<(), Refusal>
+    requires { FitBench b.old }
+    ensures { Does (act (wrapped b.old.sender.setup) b.old.sender.setup (dropd j) b.old) result b.new }
 {
-    let c = b.datas;
-    let dropping = datas::inner::drop(c, j);
-    let dropped = dropping.channel;
-    let mut next = b;
-    next.datas = dropped;
-    BenchDone {
-        answer: dropping.answer,
-        count: 0,
-        bench: next,
-    }
+    channel::inner::drop(&mut b.datas, j)
 }
 
-pub fn dropa(b: Bench, j: u64) -> BenchDone
-    requires { FitBench b }
-    ensures { result ≡ bench_done (act (wrapped b.sender.setup) b.sender.setup (dropa j) b) }
+pub fn dropa(b: &mut Bench, j: u64) -> Result<(), Refusal>
+    requires { FitBench b.old }
+    ensures { Does (act (wrapped b.old.sender.setup) b.old.sender.setup (dropa j) b.old) result b.new }
 {
-    let c = b.acks;
-    let dropping = acks::inner::drop(c, j);
-    let dropped = dropping.channel;
-    let mut next = b;
-    next.acks = dropped;
-    BenchDone {
-        answer: dropping.answer,
-        count: 0,
-        bench: next,
-    }
+    channel::inner::drop(&mut b.acks, j)
 }
 
-pub fn dupd(b: Bench, j: u64) -> BenchDone
-    requires { FitBench b }
-    ensures { result ≡ bench_done (act (wrapped b.sender.setup) b.sender.setup (dupd j) b) }
+pub fn dupd(b: &mut Bench, j: u64) -> Result<(), Refusal>
+    requires { FitBench b.old }
+    ensures { Does (act (wrapped b.old.sender.setup) b.old.sender.setup (dupd j) b.old) result b.new }
 {
-    let c = b.datas;
-    let copying = datas::inner::duplicate(c, j);
-    let copied = copying.channel;
-    let mut next = b;
-    next.datas = copied;
-    BenchDone {
-        answer: copying.answer,
-        count: 0,
-        bench: next,
-    }
+    channel::inner::duplicate(&mut b.datas, j)
 }
 
-pub fn dupa(b: Bench, j: u64) -> BenchDone
-    requires { FitBench b }
-    ensures { result ≡ bench_done (act (wrapped b.sender.setup) b.sender.setup (dupa j) b) }
+pub fn dupa(b: &mut Bench, j: u64) -> Result<(), Refusal>
+    requires { FitBench b.old }
+    ensures { Does (act (wrapped b.old.sender.setup) b.old.sender.setup (dupa j) b.old) result b.new }
 {
-    let c = b.acks;
-    let copying = acks::inner::duplicate(c, j);
-    let copied = copying.channel;
-    let mut next = b;
-    next.acks = copied;
-    BenchDone {
-        answer: copying.answer,
-        count: 0,
-        bench: next,
-    }
+    channel::inner::duplicate(&mut b.acks, j)
 }
 
-pub fn tick(b: Bench) -> BenchDone
-    requires { FitBench b }
-    ensures { result ≡ bench_done (act (wrapped b.sender.setup) b.sender.setup tick b) }
+pub fn tick(b: &mut Bench)
+    requires { FitBench b.old }
+    ensures { b.new ≡ (act (wrapped b.old.sender.setup) b.old.sender.setup tick b.old).state }
 {
-    let s = b.sender;
-    let r = b.receiver;
-    let d = b.datas;
-    let a = b.acks;
-    let sender = sender::inner::tick(s);
-    let receiver = receiver::inner::tick(r);
-    let datas = datas::inner::tick(d);
-    let acks = acks::inner::tick(a);
-    BenchDone {
-        answer: 0,
-        count: 0,
-        bench: Bench {
-            sender,
-            receiver,
-            datas,
-            acks,
-        },
+    sender::inner::tick(&mut b.sender);
+    receiver::inner::tick(&mut b.receiver);
+    channel::inner::tick(&mut b.datas);
+    channel::inner::tick(&mut b.acks);
+}
+
+// The event that is asked for, and the count of the units that were delivered: the one match over events.
+pub fn apply(b: &mut Bench, e: Event, row: &mut [u64]) -> Result<usize, Refusal>
+    requires { FitBench b.old }
+    ensures { Counts (act (wrapped b.old.sender.setup) b.old.sender.setup (event_of e (length row.old)) b.old) result b.new row.old row.new }
+{
+    match e {
+        Event::Accept(unit) => accept(b, unit)?,
+        Event::Send(k) => send(b, k)?,
+        Event::Data(j) => return data(b, j, row),
+        Event::Hear(j) => hear(b, j)?,
+        Event::DropD(j) => dropd(b, j)?,
+        Event::DropA(j) => dropa(b, j)?,
+        Event::DupD(j) => dupd(b, j)?,
+        Event::DupA(j) => dupa(b, j)?,
+        Event::Room => room(b)?,
+        Event::Ack => ack(b)?,
+        Event::Tick => tick(b),
     }
+    Ok(0)
 }

@@ -1,169 +1,157 @@
 // The bench: a sender, a receiver and the two channels between them, one event at a time. Each operation takes the bench by value
-// and gives it back; a malformed one is refused with 2 and given back as it was. `count` is 0 but where units were delivered.
-#![tactic(auto)]
+// and gives it back, in a refusal too; a malformed one is refused as `Malformed` and given back as it was.
+#![tactic(auto, unfolding(rules::specs::Operations::step))]
 
-ghost use Rattle.std.specs.Prelude.{◌≡◌, length};
+ghost use Rattle.std.specs.Prelude.{◌≡◌, IfOk, length};
 ghost use Rattle.rules.specs.Numbers.{wrapped};
 ghost use Rattle.rules.specs.Rows.{laid};
 ghost use Rattle.rules.specs.Parts.{fresh_bench};
 ghost use Rattle.rules.specs.Malformed.{malformed_bench};
-ghost use Rattle.rules.specs.Events.{refused, accept, send, arrive, room, acknowledge, hear, dropd, dropa, dupd, dupa, tick};
-ghost use Rattle.rules.specs.Operations.{begun, step, bench_done};
+ghost use Rattle.rules.specs.Fit.{FitBench};
+ghost use Rattle.rules.specs.Events.{refused, done, accept, send, arrive, room, acknowledge, hear, dropd, dropa, dupd, dupa, tick};
+ghost use Rattle.rules.specs.Asked.{event_of};
+ghost use Rattle.rules.specs.Operations.{begun, may_work, step, returned, counted};
 
-use rules::{Bench, BenchDone, Setup};
+use rules::{Bench, Event, Refusal, Refused, Setup};
 
 pub mod inner;
 
-// A bench at its start; refused with 1, and all 0, where the setup is not admitted.
-pub fn fresh(s: Setup) -> BenchDone
-    ensures { result ≡ bench_done (begun fresh_bench s) }
+// A bench at its start; `NotAdmitted`, and all 0, where the setup is not admitted.
+pub fn fresh(s: Setup) -> Result<Bench, Refused<Bench>>
+    ensures { result ≡ returned (begun fresh_bench s) }
 {
     if setup::admitted(s) {
-        BenchDone {
-            answer: 0,
-            count: 0,
-            bench: inner::first(s),
-        }
+        Ok(inner::first(s))
     } else {
-        BenchDone {
-            answer: 1,
-            count: 0,
-            bench: inner::first(setup::zero()),
-        }
+        Err(Refused {
+            why: Refusal::NotAdmitted,
+            state: inner::first(setup::zero()),
+        })
     }
 }
 
 pub fn malformed(b: Bench) -> bool
     ensures { result ≡ malformed_bench wrapped b }
 {
-    let s = b.sender.setup;
-    if !setup::admitted(s) {
-        return true;
-    }
-    if !inner::one_setup(b) {
-        return true;
-    }
-    !inner::parts_formed(b)
+    !(setup::admitted(b.sender.setup) && inner::formed(&b))
 }
 
-fn refused(b: Bench, answer: u32) -> BenchDone
-    ensures { result ≡ bench_done (refused b answer) }
-{
-    BenchDone {
-        answer,
-        count: 0,
-        bench: b,
-    }
-}
-
-// The sender accepts a unit: 6 where the window is closed, 7 where this tick's share is spent.
-pub fn accept(b: Bench, unit: u64) -> BenchDone
-    ensures { result ≡ bench_done (step wrapped (accept unit) b) }
+// The bench, if it is not malformed. `fresh`, `malformed` and this stand in each part: an impl of
+// a trait would have to stand below, with the part's type, and its test could not.
+fn checked(b: Bench) -> Result<Bench, Refused<Bench>>
+    ensures gives { result ≡ returned (may_work (malformed_bench wrapped b) (refused b) (done b)) }
+    ensures fit { IfOk result (λ next. FitBench next) }
 {
     if malformed(b) {
-        return refused(b, 2);
+        return Err(Refused {
+            why: Refusal::Malformed,
+            state: b,
+        });
     }
-    inner::accept(b, unit)
+    Ok(b)
 }
 
-// The sender sends its k-th outstanding unit, counted from 0: 4 where there is none, 5 where the data channel is full.
-pub fn send(b: Bench, k: u64) -> BenchDone
-    ensures { result ≡ bench_done (step wrapped (send k) b) }
+// The sender accepts a unit: `Closed` where the window is closed, `Spent` where this tick's share is spent.
+pub fn accept(b: Bench, unit: u64) -> Result<Bench, Refused<Bench>>
+    ensures { result ≡ returned (step wrapped (accept unit) b) }
 {
-    if malformed(b) {
-        return refused(b, 2);
-    }
-    inner::send(b, k)
+    let mut next = checked(b)?;
+    rules::given(inner::accept(&mut next, unit), next)
 }
 
-// The data packet at place j arrives, and units that come out are written to `row` from its start. 8 where the row is shorter
-// than RW, 4 where there is no such packet; with 0, 9, 10, 11 and 12 the packet is gone from its channel.
-pub fn data(b: Bench, j: u64, row: &mut [u64]) -> BenchDone
-    ensures gives { result ≡ bench_done (step wrapped (arrive j (length row.old)) b) }
+// The sender sends its k-th outstanding unit, counted from 0: `Missing` where there is none, `Full` where the data channel is full.
+pub fn send(b: Bench, k: u64) -> Result<Bench, Refused<Bench>>
+    ensures { result ≡ returned (step wrapped (send k) b) }
+{
+    let mut next = checked(b)?;
+    rules::given(inner::send(&mut next, k), next)
+}
+
+// The data packet at place j arrives, and the count is of the units that come out: they are written to `row` from its start. `ShortRow`
+// where the row is shorter than RW, `Missing` where there is no such packet; else the packet is gone from its channel, in `Stale`, `Behind`,
+// `Beyond` and `AlreadyStored` too.
+// A count and no slice of the units: the contract gives the count, and the row stays the caller's.
+pub fn data(b: Bench, j: u64, row: &mut [u64]) -> Result<(usize, Bench), Refused<Bench>>
+    ensures gives { result ≡ counted (step wrapped (arrive j (length row.old)) b) }
     ensures lent { row.new ≡ laid (step wrapped (arrive j (length row.old)) b).units row.old }
 {
-    if malformed(b) {
-        return refused(b, 2);
-    }
-    inner::data(b, j, row)
+    let mut next = checked(b)?;
+    rules::given_with(inner::data(&mut next, j, row), next)
 }
 
-// The receiver's window grows by 1: 13 where it is RW already.
-pub fn room(b: Bench) -> BenchDone
-    ensures { result ≡ bench_done (step wrapped room b) }
+// The receiver's window grows by 1: `WideOpen` where it is RW already.
+pub fn room(b: Bench) -> Result<Bench, Refused<Bench>>
+    ensures { result ≡ returned (step wrapped room b) }
 {
-    if malformed(b) {
-        return refused(b, 2);
-    }
-    inner::room(b)
+    let mut next = checked(b)?;
+    rules::given(inner::room(&mut next), next)
 }
 
-// The receiver sends an acknowledgement: 5 where the channel is full.
-pub fn ack(b: Bench) -> BenchDone
-    ensures { result ≡ bench_done (step wrapped acknowledge b) }
+// The receiver sends an acknowledgement: `Full` where the channel is full.
+pub fn ack(b: Bench) -> Result<Bench, Refused<Bench>>
+    ensures { result ≡ returned (step wrapped acknowledge b) }
 {
-    if malformed(b) {
-        return refused(b, 2);
-    }
-    inner::ack(b)
+    let mut next = checked(b)?;
+    rules::given(inner::ack(&mut next), next)
 }
 
-// The acknowledgement at place j arrives: 4 where there is none; with 0, 9, 10 and 11 it is gone from its channel.
-pub fn hear(b: Bench, j: u64) -> BenchDone
-    ensures { result ≡ bench_done (step wrapped (hear j) b) }
+// The acknowledgement at place j arrives: `Missing` where there is none; else it is gone from its channel, in `Stale`, `Behind`
+// and `Beyond` too.
+pub fn hear(b: Bench, j: u64) -> Result<Bench, Refused<Bench>>
+    ensures { result ≡ returned (step wrapped (hear j) b) }
 {
-    if malformed(b) {
-        return refused(b, 2);
-    }
-    inner::hear(b, j)
+    let mut next = checked(b)?;
+    rules::given(inner::hear(&mut next, j), next)
 }
 
-// The data packet at place j is lost: 4 where there is none.
-pub fn dropd(b: Bench, j: u64) -> BenchDone
-    ensures { result ≡ bench_done (step wrapped (dropd j) b) }
+// The data packet at place j is lost: `Missing` where there is none. The faults have two names each, one of each channel, as the
+// events do.
+pub fn dropd(b: Bench, j: u64) -> Result<Bench, Refused<Bench>>
+    ensures { result ≡ returned (step wrapped (dropd j) b) }
 {
-    if malformed(b) {
-        return refused(b, 2);
-    }
-    inner::dropd(b, j)
+    let mut next = checked(b)?;
+    rules::given(inner::dropd(&mut next, j), next)
 }
 
-// The acknowledgement at place j is lost: 4 where there is none.
-pub fn dropa(b: Bench, j: u64) -> BenchDone
-    ensures { result ≡ bench_done (step wrapped (dropa j) b) }
+// The acknowledgement at place j is lost: `Missing` where there is none.
+pub fn dropa(b: Bench, j: u64) -> Result<Bench, Refused<Bench>>
+    ensures { result ≡ returned (step wrapped (dropa j) b) }
 {
-    if malformed(b) {
-        return refused(b, 2);
-    }
-    inner::dropa(b, j)
+    let mut next = checked(b)?;
+    rules::given(inner::dropa(&mut next, j), next)
 }
 
-// The data packet at place j is copied, with its age, to the end: 4 where there is none, 5 where the channel is full.
-pub fn dupd(b: Bench, j: u64) -> BenchDone
-    ensures { result ≡ bench_done (step wrapped (dupd j) b) }
+// The data packet at place j is copied, with its age, to the end: `Missing` where there is none, `Full` where the channel is full.
+pub fn dupd(b: Bench, j: u64) -> Result<Bench, Refused<Bench>>
+    ensures { result ≡ returned (step wrapped (dupd j) b) }
 {
-    if malformed(b) {
-        return refused(b, 2);
-    }
-    inner::dupd(b, j)
+    let mut next = checked(b)?;
+    rules::given(inner::dupd(&mut next, j), next)
 }
 
-// The acknowledgement at place j is copied, with its age, to the end: 4 where there is none, 5 where the channel is full.
-pub fn dupa(b: Bench, j: u64) -> BenchDone
-    ensures { result ≡ bench_done (step wrapped (dupa j) b) }
+// The acknowledgement at place j is copied, with its age, to the end: `Missing` where there is none, `Full` where the channel is full.
+pub fn dupa(b: Bench, j: u64) -> Result<Bench, Refused<Bench>>
+    ensures { result ≡ returned (step wrapped (dupa j) b) }
 {
-    if malformed(b) {
-        return refused(b, 2);
-    }
-    inner::dupa(b, j)
+    let mut next = checked(b)?;
+    rules::given(inner::dupa(&mut next, j), next)
 }
 
 // A tick: both clocks move by 1, and everything that has an age becomes one older.
-pub fn tick(b: Bench) -> BenchDone
-    ensures { result ≡ bench_done (step wrapped tick b) }
+#[tactic(auto, unfolding(rules::specs::Operations::step, rules::specs::Events::act))]
+pub fn tick(b: Bench) -> Result<Bench, Refused<Bench>>
+    ensures { result ≡ returned (step wrapped tick b) }
 {
-    if malformed(b) {
-        return refused(b, 2);
-    }
-    inner::tick(b)
+    let mut next = checked(b)?;
+    inner::tick(&mut next);
+    Ok(next)
+}
+
+// The event that is asked for, with the count of the units that come out.
+pub fn apply(b: Bench, e: Event, row: &mut [u64]) -> Result<(usize, Bench), Refused<Bench>>
+    ensures gives { result ≡ counted (step wrapped (event_of e (length row.old)) b) }
+    ensures lent { row.new ≡ laid (step wrapped (event_of e (length row.old)) b).units row.old }
+{
+    let mut next = checked(b)?;
+    rules::given_with(inner::apply(&mut next, e, row), next)
 }

@@ -2,17 +2,17 @@
 use Rattle.std.specs.Prelude.{ℕ, ◌+◌, ◌^◌, Bool, cond, List, [], ◌∷◌, ◌++◌, length, ◌==◌, nat_lt, slice_index}
 use Rattle.rules.specs.declared.Setup.{Setup}
 use Rattle.rules.specs.declared.Bench.{Bench}
+use Rattle.rules.specs.declared.Event.{Event}
 use Rattle.rules.specs.Numbers.{wrapped}
 use Rattle.rules.specs.Setups.{◌also◌, admitted}
 use Rattle.rules.specs.Parts.{fresh_bench}
 use Rattle.rules.specs.Events as rules
+use Rattle.rules.specs.Asked.{event_of}
 use Rattle.rules.specs.Operations.{step}
-use Rattle.reader.specs.declared.Event.{Event}
-use Rattle.reader.specs.declared.Event.TheVariants.{Accept, Send, Data, Hear, DropD, DropA, DupD, DupA, Room, Ack, Tick}
 use Rattle.reader.specs.Text.{bytes}
 use Rattle.reader.specs.Cuts.{split, is_none}
 use Rattle.reader.specs.Values.{on_value}
-use Rattle.reader.specs.Lines.{line_of, on_line, setup_value}
+use Rattle.reader.specs.Lines.{line_of, setup_value}
 use Rattle.writer.specs.Decimal.{decimal}
 use Rattle.writer.specs.Lines.{event_line}
 
@@ -31,22 +31,9 @@ abbrev pub setup_line : ℕ → List ℕ
 setup_line n = word_line (bytes "setup") n
 
 -- ---- events
--- the event of a line; the lent row has 64 places
-abbrev pub event_of : Event → rules.Event
-event_of (Accept u) = rules.accept u
-event_of (Send k) = rules.send k
-event_of (Data j) = rules.arrive j 64
-event_of (Hear j) = rules.hear j
-event_of (DropD j) = rules.dropd j
-event_of (DropA j) = rules.dropa j
-event_of (DupD j) = rules.dupd j
-event_of (DupA j) = rules.dupa j
-event_of Room = rules.room
-event_of Ack = rules.acknowledge
-event_of Tick = rules.tick
-
+-- an event of the bench; the lent row has 64 places
 abbrev pub outcome : Bench → Event → rules.Out Bench
-outcome b e = step wrapped (event_of e) b
+outcome b e = step wrapped (event_of e 64) b
 
 -- what no line feed ends: nothing, or a bad line
 abbrev pub unfinished : ℕ → List ℕ → List (List ℕ)
@@ -58,7 +45,7 @@ unfoldable pub events_from : Bench → ℕ → ℕ → List (List ℕ) → List 
 events_from b l e [] = []
 events_from b l e (p ∷ ps) =
     cond (is_none ps) (unfinished l p)
-    (on_line (line_of p) (bad_line l ∷ [])
+    (on_value (line_of p) (bad_line l ∷ [])
     (λ ev.
     event_line e (outcome b ev).answer (outcome b ev).units ∷ events_from (outcome b ev).state (l + 1) (e + 1) ps))
 

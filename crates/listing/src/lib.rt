@@ -3,9 +3,11 @@
 
 ghost use Rattle.listing.specs.Fitting.{Wrote};
 
+use writer::inner::Line;
+
 pub mod inner;
 
-// How many bytes of the row were written, and whether they are the whole listing.
+// How many bytes of the row were written, and whether they are the whole listing. No `Option`: the contract `Wrote` has both in each case.
 #[derive(Clone, Copy)]
 pub struct Written {
     pub len: usize,
@@ -17,26 +19,21 @@ pub struct Written {
 pub fn write(src: &[u8], out: &mut [u8]) -> Written
     ensures { Wrote src.now out.old out.new result }
 {
-    let mut line = [0u8; 2048];
+    let mut line = Line::new();
     let first = inner::first_line(src, &mut line);
-    let n = first.len;
-    if out.len() < n {
+    if out.len() < line.len() {
         return Written {
             len: 0,
             whole: false,
         };
     }
-    let at = writer::inner::put_bytes(out, 0, &line[..n]);
-    if first.more {
-        let run = first.run;
-        let rest = inner::fill(src, run, out, at);
-        return Written {
-            len: rest.len,
-            whole: !rest.more,
-        };
-    }
+    let len = line.copy_to(out, 0);
+    let Some(run) = first else {
+        return Written { len, whole: true };
+    };
+    let part = inner::fill(src, run, out, len);
     Written {
-        len: at,
-        whole: true,
+        len: part.end,
+        whole: part.left.is_none(),
     }
 }

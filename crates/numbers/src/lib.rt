@@ -1,4 +1,5 @@
-// Numbers round a range, the slots of a ring, and the mark word: the leaves that the parts stand on.
+// Numbers round a range, the slots of a ring, the mark word, and what is asked of a packet: the leaves that the parts stand on.
 #![tactic(auto)]
 
 pub mod inner;
+pub mod packet;

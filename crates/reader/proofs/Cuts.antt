@@ -1,31 +1,17 @@
 -- Where a piece of a text ends, and what is left after it.
-use Rattle.std.specs.Prelude.{◌≡◌, ℕ, suc, ◌+◌, ◌-◌, ◌<◌, ◌≤◌, Bool, true, false, cond, nat_eq, List, [], ◌∷◌, length, get_or, take, drop}
-use Rattle.std.proofs.Common.{refl, ◌∙◌, arith, add-one, eq-eqb, ne_eqb}
-use Rattle.std.proofs.Math.ListN.{length-drop, drop_of_length-le}
-use Rattle.std.proofs.Math.Seq.{drop-cons, drop-drop, take_all}
-use Rattle.reader.specs.Cuts.{index_of, Index, onto, split, is_none}
-
-pub next_byte : (s : List ℕ) (i : ℕ) → i < length s → drop i s ≡ get_or s i 0 ∷ drop (i + 1) s
-next_byte s i h = rw (add-one i) (drop-cons s i 0 h)
+use Rattle.std.specs.Prelude.{◌≡◌, ℕ, suc, ◌+◌, ◌-◌, ◌<◌, ◌≤◌, Bool, true, false, cond, nat_eq, List, [], ◌∷◌, length, take, drop, Option, Some, None}
+use Rattle.std.proofs.Common.{refl, ap, sym, ◌∙◌, arith, ltb, ltb-true, ltb-false, add-one}
+use Rattle.std.specs.List.{position, position_or_len}
+use Rattle.std.proofs.lemmas.List.{take_rest}
+use Rattle.std.proofs.lemmas.Option.{cond_some}
+use Rattle.std.proofs.lemmas.List.Recursion.{is_position_or_len}
+use Rattle.std.proofs.Math.ListN.{length-drop}
+use Rattle.std.proofs.Math.Seq.{drop-drop}
+use Rattle.reader.specs.Cuts.{index_of, Index, First, onto, split, is_none}
 
 -- what `&s[i..]` lends
-pub rest_is : (s : List ℕ) (i : ℕ) → take (length s - i) (drop i s) ≡ drop i s
-rest_is s i = take_all (length s - i) (drop i s) (rw length-drop (omega arith))
-
--- ---- the place of the first b, one byte at a time
-module _ (b : ℕ) (s : List ℕ) (i : ℕ) where
-  pub index_end : length s ≤ i → i + index_of b (drop i s) ≡ i
-  unfolding index_of
-  index_end h = rw (drop_of_length-le s h) (omega arith)
-
-  module _ (h : i < length s) where
-    pub index_found : get_or s i 0 ≡ b → i + index_of b (drop i s) ≡ i
-    unfolding index_of
-    index_found e = rw (next_byte s i h, eq-eqb _ _ e) (omega arith)
-
-    pub index_passed : (get_or s i 0 ≡ b → ⊥) → i + index_of b (drop i s) ≡ i + 1 + index_of b (drop (i + 1) s)
-    unfolding index_of
-    index_passed n = rw (next_byte s i h, ne_eqb _ _ n) (omega arith)
+abbrev pub rest : List ℕ → ℕ → List ℕ
+rest s i = take (length s - i) (drop i s)
 
 by_byte : (q : Bool) (i n : ℕ) → i ≤ n → cond q 0 (suc i) ≤ suc n
 by_byte true i n h = omega arith
@@ -89,3 +75,38 @@ pub split_some : (b : ℕ) (t : List ℕ) → is_none (split b t) ≡ false
 unfolding split
 split_some b [] = refl
 split_some b (x ∷ t) = some_by (nat_eq x b) (split b t) (onto x (split b t)) (onto_some x (split b t))
+
+-- ---- the same place, as std's `position` finds it
+index_position : (b : ℕ) (t : List ℕ) → index_of b t ≡ position_or_len (λ x. nat_eq x b) t
+unfolding index_of
+index_position b t =
+    let o : (x : ℕ) (xs : List ℕ) → index_of b (x ∷ xs) ≡ cond (nat_eq x b) 0 (1 + index_of b xs) = λ x xs.
+    let q : 1 + index_of b xs ≡ suc (index_of b xs) = omega arith in
+    rw q in
+    is_position_or_len (index_of b) (λ x. nat_eq x b) refl o t
+
+cond_none : (q : Bool) (p : ℕ) → cond q (Some p) None ≡ None → q ≡ false
+cond_none true p e = cc
+cond_none false p e = refl
+
+module _ (b : ℕ) (s : List ℕ) (from : ℕ) (h : from ≤ length s) (r : Option ℕ) (e : r ≡ position (λ x. nat_eq x b) (rest s from)) where
+  place : r ≡ cond (ltb (index_of b (drop from s)) (length (drop from s))) (Some (index_of b (drop from s))) None
+  place = rw (index_position b (drop from s), ← take_rest s from) e
+
+  pub first_none : r ≡ None → Index b s from (length s)
+  first_none n =
+      let g : length (drop from s) ≤ index_of b (drop from s) = ltb-false _ _ (cond_none _ _ (sym place ∙ n)) in
+      record { is = omega (arith, index_le b (drop from s), length-drop from s); after = h; within = omega arith }
+
+  pub first_some : (k : ℕ) → r ≡ Some k → First b s from (Some (from + k))
+  first_some k n =
+      let g = cond_some _ _ _ (sym place ∙ n) in
+      let l : from + k < length s = omega (arith, g.1, ltb-true _ _ g.0, length-drop from s) in
+      (record { is = omega (arith, g.1); after = omega arith; within = omega arith }, l)
+
+-- of what `index` ensures no two results are allowed
+pub one_first : (b : ℕ) (s : List ℕ) (from : ℕ) (x y : Option ℕ) → First b s from x → First b s from y → x ≡ y
+one_first b s from None None p q = refl
+one_first b s from None (Some e) p q = absurd (omega (arith, p.is, q.0.is, q.1))
+one_first b s from (Some d) None p q = absurd (omega (arith, p.0.is, p.1, q.is))
+one_first b s from (Some d) (Some e) p q = ap Some (p.0.is ∙ sym q.0.is)

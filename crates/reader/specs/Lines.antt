@@ -1,30 +1,14 @@
--- Lines, without their line feed: a key, `=` and a value. A key is exactly one of the table's; any other line is bad.
-use Rattle.std.specs.Prelude.{ℕ, ◌+◌, Bool, true, false, cond, List, [], ◌∷◌, length, take, drop, ◌==◌}
+-- Lines, without their line feed: a key, `=` and a value. A key is exactly one of the table's; any other line is bad, None.
+use Rattle.std.specs.Prelude.{ℕ, ◌+◌, ◌-◌, cond, List, [], ◌∷◌, length, take, drop, ◌==◌, Option, Some, None, option_map}
 use Prim.Native.String.{String}
-use Rattle.reader.specs.declared.Value.{Value}
-use Rattle.reader.specs.declared.Value.TheVariants as ValueCase
-use Rattle.reader.specs.declared.Field.{Field}
-use Rattle.reader.specs.declared.Field.TheVariants as FieldCase
-use Rattle.reader.specs.declared.Event.{Event}
-use Rattle.reader.specs.declared.Event.TheVariants.{Accept, Send, Data, Hear, DropD, DropA, DupD, DupA, Room, Ack, Tick}
-use Rattle.reader.specs.declared.Line.{Line}
-use Rattle.reader.specs.declared.Line.TheVariants as LineCase
+use Rattle.rules.specs.declared.Event.{Event}
+use Rattle.rules.specs.declared.Event.TheVariants.{Accept, Send, Data, Hear, DropD, DropA, DupD, DupA, Room, Ack, Tick}
+use Rattle.std.specs.Str.{bytes_eq}
 use Rattle.reader.specs.Text.{bytes}
 use Rattle.reader.specs.Cuts.{index_of}
 use Rattle.reader.specs.Values.{value_of, on_value}
 
 -- ---- a key and a value
-unfoldable pub same : List ℕ → List ℕ → Bool
-same [] [] = true
-same [] (b ∷ y) = false
-same (a ∷ x) [] = false
-same (a ∷ x) (b ∷ y) = cond (a == b) (same x y) false
-
--- the place of k among the words, the first of which has the place n; 0 where it is none
-unfoldable pub place_of : List ℕ → ℕ → List (List ℕ) → ℕ
-place_of k n [] = 0
-place_of k n (w ∷ ws) = cond (same k w) n (place_of k (n + 1) ws)
-
 -- the key up to the first `=`, the value after it
 abbrev pub key_part : List ℕ → List ℕ
 key_part l = take (index_of 61 l) l
@@ -32,16 +16,9 @@ key_part l = take (index_of 61 l) l
 abbrev pub value_part : List ℕ → List ℕ
 value_part l = drop (index_of 61 l + 1) l
 
--- the key's place among the keys, from 1, and the value; bad if there is no `=`, no value or no such key
-unfoldable pub field_of : List (List ℕ) → List ℕ → Field
-field_of keys l =
-    cond (index_of 61 l == length l) FieldCase.Bad
-    (on_value (value_of (value_part l)) FieldCase.Bad
-    (λ x. cond (place_of (key_part l) 1 keys == 0) FieldCase.Bad (FieldCase.Is (place_of (key_part l) 1 keys) x)))
-
-abbrev pub on_field : {A : Type 0} → Field → A → (ℕ → ℕ → A) → A
-on_field (FieldCase.Is k x) bad good = good k x
-on_field FieldCase.Bad bad good = bad
+-- both; None if there is no `=` or no value
+unfoldable pub field_of : List ℕ → Option (List ℕ × ℕ)
+field_of l = cond (index_of 61 l == length l) None (option_map (λ x. (key_part l, x)) (value_of (value_part l)))
 
 -- ---- setup lines
 abbrev pub setup_keys : List (List ℕ)
@@ -56,50 +33,49 @@ setup_keys =
     ∷ bytes "rclock"
     ∷ []
 
+-- the n-th of the words, from 1
+unfoldable pub nth : ℕ → List (List ℕ) → Option (List ℕ)
+nth n [] = None
+nth n (w ∷ ws) = cond (n == 1) (Some w) (nth (n - 1) ws)
+
 -- the value of a line that has the n-th setup key
-unfoldable pub setup_value : ℕ → List ℕ → Value
-setup_value n l = on_field (field_of setup_keys l) ValueCase.Bad (λ k x. cond (k == n) (ValueCase.Is x) ValueCase.Bad)
+unfoldable pub setup_value : ℕ → List ℕ → Option ℕ
+setup_value n l =
+    on_value (field_of l) None
+    (λ f. on_value (nth n setup_keys) None (λ w. cond (bytes_eq f.0 w) (Some f.1) None))
 
 -- ---- event lines
 -- room, ack and tick have the value 1
-abbrev pub only_one : Event → ℕ → Line
-only_one e x = cond (x == 1) (LineCase.Good e) LineCase.Bad
+abbrev pub only_one : Event → ℕ → Option Event
+only_one e x = cond (x == 1) (Some e) None
 
--- a key, and the line that it makes of a value
+-- a key, and the event that it makes of a value
 pub record Entry : Type 0 where
   pub key : List ℕ
-  pub line : ℕ → Line
+  pub line : ℕ → Option Event
 
-abbrev pub entry : String → (ℕ → Line) → Entry
+abbrev pub entry : String → (ℕ → Option Event) → Entry
 entry k f = record { key = bytes k; line = f }
 
 abbrev pub events : List Entry
 events =
-    entry "accept" (λ u. LineCase.Good (Accept u))
-    ∷ entry "send" (λ k. LineCase.Good (Send k))
-    ∷ entry "data" (λ j. LineCase.Good (Data j))
-    ∷ entry "hear" (λ j. LineCase.Good (Hear j))
-    ∷ entry "dropd" (λ j. LineCase.Good (DropD j))
-    ∷ entry "dropa" (λ j. LineCase.Good (DropA j))
-    ∷ entry "dupd" (λ j. LineCase.Good (DupD j))
-    ∷ entry "dupa" (λ j. LineCase.Good (DupA j))
+    entry "accept" (λ u. Some (Accept u))
+    ∷ entry "send" (λ k. Some (Send k))
+    ∷ entry "data" (λ j. Some (Data j))
+    ∷ entry "hear" (λ j. Some (Hear j))
+    ∷ entry "dropd" (λ j. Some (DropD j))
+    ∷ entry "dropa" (λ j. Some (DropA j))
+    ∷ entry "dupd" (λ j. Some (DupD j))
+    ∷ entry "dupa" (λ j. Some (DupA j))
     ∷ entry "room" (only_one Room)
     ∷ entry "ack" (only_one Ack)
     ∷ entry "tick" (only_one Tick)
     ∷ []
 
-unfoldable pub keys_of : List Entry → List (List ℕ)
-keys_of [] = []
-keys_of (e ∷ es) = e.key ∷ keys_of es
+-- what the entry of the key k makes of the value x
+unfoldable pub event_for : List ℕ → ℕ → List Entry → Option Event
+event_for k x [] = None
+event_for k x (e ∷ es) = cond (bytes_eq k e.key) (e.line x) (event_for k x es)
 
--- the line of the entry at place k, where the first has the place n
-unfoldable pub pick : ℕ → ℕ → ℕ → List Entry → Line
-pick n k x [] = LineCase.Bad
-pick n k x (e ∷ es) = cond (k == n) (e.line x) (pick (n + 1) k x es)
-
-unfoldable pub line_of : List ℕ → Line
-line_of l = on_field (field_of (keys_of events) l) LineCase.Bad (λ k x. pick 1 k x events)
-
-abbrev pub on_line : {A : Type 0} → Line → A → (Event → A) → A
-on_line (LineCase.Good e) bad good = good e
-on_line LineCase.Bad bad good = bad
+unfoldable pub line_of : List ℕ → Option Event
+line_of l = on_value (field_of l) None (λ f. event_for f.0 f.1 events)

@@ -1,18 +1,12 @@
-// Where a line or a word ends.
+// Where a line or a key ends.
 ghost use Rattle.std.specs.Prelude.{◌≤◌, length};
-ghost use Rattle.reader.specs.Cuts.{Index};
+ghost use Rattle.reader.specs.Cuts.{First};
 
-// The place of the first b of s from `from` on, or the length of s.
-pub fn index(s: &[u8], from: usize, b: u8) -> usize
+// The place of the first b of s from `from` on, if there is one.
+pub fn index(s: &[u8], from: usize, b: u8) -> Option<usize>
     requires { from ≤ length s.now }
-    ensures { Index b s.now from result }
+    ensures { First b s.now from result }
 {
-    let mut i = from;
-    while i < s.len() {
-        if s[i] == b {
-            return i;
-        }
-        i += 1;
-    }
-    i
+    let k = s[from..].iter().position(|x| *x == b)?;
+    Some(from + k)
 }

@@ -1,181 +1,105 @@
--- The cases of the receiver's rules: one law for each answer, so that each return of the code cites one. And a receiver as a head
--- and its slots: what is done to the head is what the rule does to the whole.
-use Rattle.std.specs.Prelude.{◌≡◌, ℕ, ◌+◌, ◌%◌, ◌<◌, ◌≤◌, Bool, true, false, cond, leb, List, [], set}
-use mathlib.Core.Path.{refl, sym, ◌∙◌}
+-- How a packet's arrival comes out: it is refused, or it is let in and stored. What `data` is proved by.
+use Rattle.std.specs.Prelude.{◌≡◌, ◌≢◌, ℕ, ◌%◌, ◌<◌, Bool, true, false, List, set, Result, Ok, Err}
+use mathlib.Core.Path.{refl}
 use native.Mathlib.Decide.{dec_lt}
-use native.Mathlib.Numerals.{add-one}
 use native.Mathlib.Omega.{arith}
 use borrow.Author.Tests.{lt-ltb, le-ltb, le-leb, lt-leb, ne_eqb}
 use Rattle.rules.specs.declared.Receiver.{Receiver}
 use Rattle.rules.specs.declared.BareData.{BareData}
-use Rattle.rules.specs.Numbers.{NS, NC, dist, wrapped}
+use Rattle.rules.specs.declared.Refusal.{Refusal}
+use Rattle.rules.specs.Numbers.{NS, dist, wrapped}
 use Rattle.rules.specs.Marks.{marked, mark}
-use Rattle.rules.specs.Rows.{laid}
-use Rattle.rules.specs.Fit.{Within, FitReceiver, FitData}
-use Rattle.rules.specs.Events.{Out, Delivery, refused, done, passed, older, may_arrive, deliver, advanced, stored, arriving, opened, opening, ticked_receiver}
-use Rattle.rules.specs.Operations.{receiver_done, receiver_took}
-use Rattle.rules.proofs.Deliveries.{within_here, few, dist_same, dist_other}
-use Rattle.receiver.specs.declared.inner.ReceiverHead.{ReceiverHead}
-use Rattle.receiver.specs.declared.inner.HeadDone.{HeadDone}
-use Rattle.receiver.specs.declared.inner.HeadTook.{HeadTook}
-use Rattle.receiver.specs.declared.inner.lent.Delivered.{Delivered}
-use Rattle.receiver.specs.Head.{receiver_of, head_of, head_done, head_advanced, Leaves, Comes, round}
+use Rattle.rules.specs.Fit.{FitReceiver, FitData}
+use Rattle.rules.specs.Events.{Out, refused, passed, may_arrive, deliver, advanced, stored, arriving}
+use Rattle.rules.specs.Operations.{answered, Counts}
+use Rattle.rules.proofs.Deliveries.{within_here, dist_same, dist_other}
 
--- ---- a head and its slots
--- what is asked of a receiver does not speak of its slots
-pub fit_head : {r : Receiver} {h : ReceiverHead} {sl : List ℕ} → h ≡ head_of r → FitReceiver r → FitReceiver (receiver_of h sl)
-fit_head e f = rw e (record { setup = f.setup; nxt = f.nxt; window = f.window; clock = f.clock; recent = f.recent; marks = f.marks })
+-- what a test tells by its number
+abbrev told : ℕ → Result (Unit {0}) Refusal
+told n = answered n tt
 
--- room for the head is room for the whole
-pub opening_whole : {r : Receiver} {h : ReceiverHead} {o : HeadDone} → h ≡ head_of r → o ≡ head_done (opening h.setup (receiver_of h []))
-    → record { answer = o.answer; receiver = receiver_of o.head r.slots } ≡ receiver_done (opening r.setup r)
-opening_whole {r} {h} {o} eh eo = rw (eo, eh) (by (leb r.setup.window r.window))
-  where
-    over : Receiver
-    over = receiver_of (head_of r) []
-
-    by : (b : Bool)
-        → record {
-          answer = (cond b (refused over 13) (done (opened over))).answer;
-          receiver = receiver_of (head_of (cond b (refused over 13) (done (opened over))).state) r.slots;
-        }
-        ≡ receiver_done (cond b (refused r 13) (done (opened r)))
-    by true = refl
-    by false = refl
-
--- and so is a packet that arrives
-pub arriving_whole : (r : Receiver) {h : ReceiverHead} (p : BareData) {x : HeadTook} {sl row out : List ℕ} → h ≡ head_of r
-    → Leaves (arriving (wrapped h.setup) h.setup p (receiver_of h r.slots)) x sl row out
-    → (record { answer = x.answer; count = x.count; receiver = receiver_of x.head sl } ≡ receiver_took (arriving (wrapped r.setup) r.setup p r))
-    × (out ≡ laid (arriving (wrapped r.setup) r.setup p r).units row)
-arriving_whole r p e l = let m = rw e at l in (rw (m.gives, m.slots), m.lent)
-
--- ---- room and tick
-module _ (h : ReceiverHead) where
-  pub full : h.setup.window ≤ h.window → record { answer = 13; head = h } ≡ head_done (opening h.setup (receiver_of h []))
-  full l = rw (le-leb _ _ l)
-
-  pub opens : h.window < h.setup.window
-      → record {
-        answer = 0;
-        head = record
-            { setup = h.setup; nxt = h.nxt; window = h.window + 1; clock = h.clock; recent = h.recent; marks = h.marks };
-      }
-      ≡ head_done (opening h.setup (receiver_of h []))
-  opens l = rw (lt-leb _ _ l, add-one)
-
-  pub ticks : record {
-    setup = h.setup;
-    nxt = h.nxt;
-    window = h.window;
-    clock = (h.clock + 1) % NC h.setup;
-    recent = older h.setup.life h.recent;
-    marks = h.marks;
-  }
-      ≡ head_of (ticked_receiver (wrapped h.setup) h.setup (receiver_of h []))
-  ticks = rw add-one
-
--- ---- data arriving
-module _ (h : ReceiverHead) (p : BareData) where
+module _ (r : Receiver) (p : BareData) where
+  -- how far ahead of nxt the packet is
   abbrev o : ℕ
-  o = dist (NS h.setup) p.seq h.nxt
+  o = dist (NS r.setup) p.seq r.nxt
 
-  -- the event's test over the slots sl, with what to make of a refusal and of going on
-  abbrev tested : {X : Type 0} → List ℕ → (ℕ → X) → (ℕ → X) → X
-  tested sl = may_arrive (wrapped h.setup) h.setup p (receiver_of h sl)
-
+  -- the number of the refusal, or 0
   abbrev verdict : ℕ
-  verdict = tested [] (λ (n : ℕ). n) (λ (o : ℕ). 0)
+  verdict = may_arrive (wrapped r.setup) r.setup p r (λ (n : ℕ). n) (λ (o : ℕ). 0)
 
-  pub stale : passed (wrapped h.setup) h.recent p.stamp ≡ false → 9 ≡ verdict
-  stale e = rw e
-
-  module _ {d : ℕ} (fresh : passed (wrapped h.setup) h.recent p.stamp ≡ true) (off : d ≡ o) where
-    pub behind : h.setup.window ≤ d → 10 ≡ verdict
-    behind l = rw (fresh, ← off, le-ltb _ _ l)
-
-    module _ (near : d < h.setup.window) where
-      pub beyond : h.window ≤ d → 11 ≡ verdict
-      beyond l = rw (fresh, ← off, lt-ltb _ _ near, le-leb _ _ l)
-
-      module _ (room : d < h.window) where
-        pub twice : marked h.marks (p.seq % h.setup.window) ≡ true → 12 ≡ verdict
-        twice m = rw (fresh, ← off, lt-ltb _ _ near, lt-leb _ _ room, m)
-
-        pub goes : marked h.marks (p.seq % h.setup.window) ≡ false → 0 ≡ verdict
-        goes m = rw (fresh, ← off, lt-ltb _ _ near, lt-leb _ _ room, m)
+  -- the event
+  abbrev arrived : Out Receiver
+  arrived = arriving (wrapped r.setup) r.setup p r
 
   -- what a verdict says of the event: it is refused with that number; or it goes on, and o is below the window
-  data Verdict {X : Type 0} (refuse go : ℕ → X) : ℕ → X → Type 0 where
-    turned_away : (n : ℕ) → (n ≡ 0 → ⊥) → Verdict refuse go n (refuse n)
-    let_in : o < h.window → Verdict refuse go 0 (go o)
+  data Verdict : ℕ → Out Receiver → Type 0 where
+    turned_away : (n : ℕ) → (n ≡ 0 → ⊥) → Verdict n (refused r n)
+    let_in : o < r.window → Verdict 0 (stored (wrapped r.setup) r.setup p r o)
 
-  view : {X : Type 0} (sl : List ℕ) (refuse go : ℕ → X) → Verdict refuse go verdict (tested sl refuse go)
-  view sl refuse go =
-      by (passed (wrapped h.setup) h.recent p.stamp) refl (dec_lt o h.setup.window) (dec_lt o h.window)
-      (marked h.marks (p.seq % h.setup.window)) refl
+  view : Verdict verdict arrived
+  view =
+      by (passed (wrapped r.setup) r.recent p.stamp) refl (dec_lt o r.setup.window) (dec_lt o r.window)
+      (marked r.marks (p.seq % r.setup.window)) refl
     where
-      by : (a : Bool) → passed (wrapped h.setup) h.recent p.stamp ≡ a → Dec (o < h.setup.window) → Dec (o < h.window)
-          → (b : Bool) → marked h.marks (p.seq % h.setup.window) ≡ b → Verdict refuse go verdict (tested sl refuse go)
+      by : (a : Bool) → passed (wrapped r.setup) r.recent p.stamp ≡ a → Dec (o < r.setup.window) → Dec (o < r.window)
+          → (b : Bool) → marked r.marks (p.seq % r.setup.window) ≡ b → Verdict verdict arrived
       by false e n w b m = rw e (turned_away 9 (λ z. omega arith))
-      by true e (no n) w b m = rw (e, le-ltb o h.setup.window (omega arith)) (turned_away 10 (λ z. omega arith))
-      by true e (yes n) (no w) b m = rw (e, lt-ltb _ _ n, le-leb h.window o (omega arith)) (turned_away 11 (λ z. omega arith))
+      by true e (no n) w b m = rw (e, le-ltb o r.setup.window (omega arith)) (turned_away 10 (λ z. omega arith))
+      by true e (yes n) (no w) b m = rw (e, lt-ltb _ _ n, le-leb r.window o (omega arith)) (turned_away 11 (λ z. omega arith))
       by true e (yes n) (yes w) true m = rw (e, lt-ltb _ _ n, lt-leb _ _ w, m) (turned_away 12 (λ z. omega arith))
       by true e (yes n) (yes w) false m = rw (e, lt-ltb _ _ n, lt-leb _ _ w, m) (let_in w)
 
-  refusal : {X : Type 0} {refuse go : ℕ → X} {n : ℕ} {x : X} → Verdict refuse go n x → (n ≡ 0 → ⊥) → x ≡ refuse n
-  refusal (turned_away n l) ne = refl
-  refusal (let_in l) ne = absurd (ne refl)
+  -- what was told says which
+  refusal : {n : ℕ} {x : Out Receiver} {e : Refusal} {row : List ℕ} → Verdict n x → Err e ≡ told n → Counts x (Err e) r row row
+  refusal (turned_away n ne) is = let q = rw (ne_eqb n 0 ne) at is in record { gives = rw (ne_eqb n 0 ne) (cc); leaves = refl; lent = refl }
+  refusal (let_in l) is = let no : ⊥ = cc in absurd no
 
-  going : {X : Type 0} {refuse go : ℕ → X} {n : ℕ} {x : X} → Verdict refuse go n x → n ≡ 0 → (x ≡ go o) × (o < h.window)
-  going (turned_away n l) e = absurd (l e)
-  going (let_in l) e = (refl, l)
+  going : {n : ℕ} {x : Out Receiver} → Verdict n x → Ok tt ≡ told n → (x ≡ stored (wrapped r.setup) r.setup p r o) × (o < r.window)
+  going (turned_away n ne) is = let q = rw (ne_eqb n 0 ne) at is in let no : ⊥ = cc in absurd no
+  going (let_in l) is = (refl, l)
 
-  -- the event, over the slots sl and the row that is lent
-  module _ (sl row : List ℕ) where
-    abbrev arrived : Out Receiver
-    arrived = arriving (wrapped h.setup) h.setup p (receiver_of h sl)
+  pub refuses : {e : Refusal} {row : List ℕ} → Err e ≡ told verdict → Counts arrived (Err e) r row row
+  refuses = refusal view
 
-    event : Verdict (refused (receiver_of h sl)) (stored (wrapped h.setup) h.setup p (receiver_of h sl)) verdict arrived
-    event = view sl (refused (receiver_of h sl)) (stored (wrapped h.setup) h.setup p (receiver_of h sl))
+  -- the receiver with the packet stored and marked
+  abbrev kept : Receiver
+  kept = record {
+    setup = r.setup;
+    nxt = r.nxt;
+    window = r.window;
+    clock = r.clock;
+    recent = r.recent;
+    slots = set r.slots (p.seq % r.setup.window) p.unit;
+    marks = mark r.marks (p.seq % r.setup.window);
+  }
 
-    pub refuses : {v : ℕ} → v ≡ verdict → (v ≡ 0 → ⊥) → Leaves arrived (record { answer = v; count = 0; head = h }) sl row row
-    refuses {v} e ne = rw (refusal event (λ z. ne (e ∙ z))) (record { gives = rw e; slots = refl; lent = refl })
+  module _ (go : Ok tt ≡ told verdict) (fit : FitReceiver r) (right : FitData r.setup p) where
+    goes : (arrived ≡ stored (wrapped r.setup) r.setup p r o) × (o < r.window)
+    goes = going view go
 
-    module _ {v at mk : ℕ} (go : v ≡ verdict) (zero : v ≡ 0) (slot : at ≡ p.seq % h.setup.window) (on : mk ≡ mark h.marks at) where
-      goes_on : (arrived ≡ stored (wrapped h.setup) h.setup p (receiver_of h sl) o) × (o < h.window)
-      goes_on = going event (sym go ∙ zero)
+    pub keeps : {row : List ℕ} → p.seq ≢ r.nxt → Counts arrived (Ok 0) kept row row
+    keeps ne = rw (goes.0, ne_eqb o 0 (dist_other _ _ _ right.seq fit.nxt ne)) (record { gives = refl; leaves = refl; lent = refl })
 
-      -- stored and marked
-      abbrev with_mark : ReceiverHead
-      with_mark = record
-          { setup = h.setup; nxt = h.nxt; window = h.window; clock = h.clock; recent = h.recent; marks = mk }
+    module _ (next : p.seq ≡ r.nxt) where
+      here : o ≡ 0
+      here = dist_same _ _ _ right.seq next
 
-      module _ (fit : FitReceiver (receiver_of h sl)) (right : FitData h.setup p) where
-        pub keeps : (p.seq ≡ h.nxt → ⊥) → Leaves arrived (record { answer = 0; count = 0; head = with_mark }) (set sl at p.unit) row row
-        keeps ne =
-            rw (goes_on.0, ne_eqb o 0 (dist_other _ _ _ right.seq fit.nxt ne), on, slot)
-            (record { gives = refl; slots = refl; lent = refl })
+      -- it is fit for a delivery
+      pub ready : FitReceiver kept
+      ready =
+          let room : 0 < r.window = omega (arith, goes.1, here) in
+          record {
+            setup = fit.setup;
+            nxt = fit.nxt;
+            window = fit.window;
+            clock = fit.clock;
+            recent = fit.recent;
+            marks = rw next (within_here fit.setup.some room fit.marks);
+          }
 
-        module _ (next : p.seq ≡ h.nxt) where
-          abbrev delivery : Delivery
-          delivery = deliver (round h.setup.seqbits) h.setup.window h.setup.window h.nxt (set sl at p.unit) mk
-
-          here : o ≡ 0
-          here = dist_same _ _ _ right.seq next
-
-          module _ {d : Delivered} {tl out : List ℕ} (c : Comes delivery d tl row out) where
-            -- the count is no more than the window
-            pub at_most : d.count ≤ h.window
-            at_most =
-                let S = h.setup in
-                let room : 0 < h.window = omega (arith, goes_on.1, here) in
-                let near : Within S.window h.nxt h.window mk = rw (on, slot, next) (within_here fit.setup.some room fit.marks) in
-                rw c.gives
-                (few S.window (NS S) fit.setup.some fit.setup.most fit.setup.even
-                S.window h.nxt h.window (set sl at p.unit) mk near)
-
-            pub delivers : Leaves arrived (record { answer = 0; count = d.count; head = head_advanced h p.stamp d }) tl row out
-            delivers =
-                let e : arrived ≡ advanced (wrapped h.setup) h.setup p.stamp (receiver_of h sl) delivery = goes_on.0 ∙ rw (here, on, slot) in
-                rw e (record { gives = rw c.gives; slots = c.slots; lent = c.lent })
+      -- and what that delivers is what the event gives
+      pub delivers : {k : ℕ} {x : Receiver} {row out : List ℕ}
+          → Counts (advanced (wrapped r.setup) r.setup p.stamp kept
+          (deliver (wrapped r.setup).seq r.setup.window r.setup.window r.nxt kept.slots kept.marks)) (Ok k) x row out
+          → Counts arrived (Ok k) x row out
+      delivers d = rw (goes.0, here) (record { gives = d.gives; leaves = d.leaves; lent = d.lent })

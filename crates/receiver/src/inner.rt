@@ -1,72 +1,16 @@
-// The receiver's events on a receiver that is not malformed, by value, and the test of whether it is. The work is in `lent`.
-ghost use Rattle.std.specs.Prelude.{◌≡◌, ◌-◌, ◌<◌, ◌≤◌, length};
+// The receiver's events in place, on a receiver that is not malformed, and the test of whether it is.
+// What an admitted setup and a fit state have stays a `requires`: both are public and by value, others too, so a type that holds it
+// would stand beside each, and be copied into and out of at each event.
+ghost use Rattle.std.specs.Prelude.{◌≡◌, ℕ, ◌-◌, ◌<◌, ◌≤◌, length, Ok};
 ghost use Rattle.rules.specs.Numbers.{wrapped};
-ghost use Rattle.rules.specs.Rows.{laid};
 ghost use Rattle.rules.specs.Parts.{fresh_receiver};
 ghost use Rattle.rules.specs.Malformed.{all_from, right_ahead, unused, formed_receiver};
 ghost use Rattle.rules.specs.Fit.{FitSetup, FitReceiver, FitData};
-ghost use Rattle.rules.specs.Events.{arriving, opening, ack_of, ticked_receiver};
-ghost use Rattle.rules.specs.Operations.{receiver_done, receiver_took};
-ghost use Rattle.receiver.specs.Head.{receiver_of, head_of};
+ghost use Rattle.rules.specs.Events.{may_arrive, deliver, advanced, arriving, opening, ack_of, ticked_receiver};
+ghost use Rattle.rules.specs.Operations.{answered, Does, Counts};
 
-use rules::{BareAck, BareData, Receiver, ReceiverDone, ReceiverTook, Recent, Setup};
-
-pub mod lent;
-
-// A receiver without its slots.
-#[derive(Clone, Copy)]
-pub struct ReceiverHead {
-    pub setup: Setup,
-    pub nxt: u32,
-    pub window: u32,
-    pub clock: u32,
-    pub recent: Recent,
-    pub marks: u64,
-}
-
-#[derive(Clone, Copy)]
-pub struct HeadDone {
-    pub answer: u32,
-    pub head: ReceiverHead,
-}
-
-#[derive(Clone, Copy)]
-pub struct HeadTook {
-    pub answer: u32,
-    pub count: usize,
-    pub head: ReceiverHead,
-}
-
-pub fn head(r: Receiver) -> ReceiverHead
-    ensures { result ≡ head_of r }
-{
-    let setup = r.setup;
-    let recent = r.recent;
-    ReceiverHead {
-        setup,
-        nxt: r.nxt,
-        window: r.window,
-        clock: r.clock,
-        recent,
-        marks: r.marks,
-    }
-}
-
-pub fn whole(h: ReceiverHead, slots: [u64; 64]) -> Receiver
-    ensures { result ≡ receiver_of h slots }
-{
-    let setup = h.setup;
-    let recent = h.recent;
-    Receiver {
-        setup,
-        nxt: h.nxt,
-        window: h.window,
-        clock: h.clock,
-        recent,
-        slots,
-        marks: h.marks,
-    }
-}
+use numbers::inner::{Range, Ring, marks, recent};
+use rules::{BareAck, BareData, Receiver, Recent, Refusal, Setup};
 
 // A receiver at its start.
 pub fn first(s: Setup) -> Receiver
@@ -77,120 +21,155 @@ pub fn first(s: Setup) -> Receiver
         nxt: s.seq,
         window: 0,
         clock: s.rclock,
-        recent: Recent {
-            held: false,
-            stamp: 0,
-            age: 0,
-        },
+        recent: Recent::default(),
         slots: [0; 64],
         marks: 0,
     }
 }
 
-pub fn data(r: Receiver, p: BareData, row: &mut [u64]) -> ReceiverTook
-    requires { FitReceiver r × FitData r.setup p × (r.setup.window ≤ length row.old) }
-    ensures gives { result ≡ receiver_took (arriving (wrapped r.setup) r.setup p r) }
-    ensures lent { row.new ≡ laid (arriving (wrapped r.setup) r.setup p r).units row.old }
+// A data packet arrives and is stored; one at nxt lets units out to the row, and the result is how many.
+pub fn data(r: &mut Receiver, p: BareData, row: &mut [u64]) -> Result<usize, Refusal>
+    requires { FitReceiver r.old × FitData r.old.setup p × (r.old.setup.window ≤ length row.old) }
+    ensures { Counts (arriving (wrapped r.old.setup) r.old.setup p r.old) result r.new row.old row.new }
 {
-    let mut slots = r.slots;
-    let o = lent::data(head(r), &mut slots, p, row);
-    let h = o.head;
-    ReceiverTook {
-        answer: o.answer,
-        count: o.count,
-        receiver: whole(h, slots),
+    may_arrive(r, p)?;
+    let at = Ring::new(r.setup.window).slot(p.seq);
+    r.slots[at as usize] = p.unit;
+    r.marks = marks::with_mark(r.marks, at);
+    if p.seq != r.nxt {
+        return Ok(0);
+    }
+    Ok(deliver(r, p.stamp, row))
+}
+
+// The window grows by 1.
+pub fn room(r: &mut Receiver) -> Result<(), Refusal>
+    requires { FitReceiver r.old }
+    ensures { Does (opening r.old.setup r.old) result r.new }
+{
+    if r.setup.window <= r.window {
+        return Err(Refusal::WideOpen);
+    }
+    r.window += 1;
+    Ok(())
+}
+
+// The acknowledgement to send now.
+pub fn ack(r: &Receiver) -> BareAck
+    ensures { result ≡ ack_of r.now }
+{
+    BareAck {
+        ack: r.nxt,
+        window: r.window,
+        stamp: r.clock,
     }
 }
 
-pub fn room(r: Receiver) -> ReceiverDone
-    requires { FitReceiver r }
-    ensures { result ≡ receiver_done (opening r.setup r) }
+// The clock moves by 1, and recent becomes one older.
+pub fn tick(r: &mut Receiver)
+    requires { FitReceiver r.old }
+    ensures { r.new ≡ ticked_receiver (wrapped r.old.setup) r.old.setup r.old }
 {
-    let slots = r.slots;
-    let o = lent::room(head(r));
-    let h = o.head;
-    ReceiverDone {
-        answer: o.answer,
-        receiver: whole(h, slots),
+    r.clock = Range::new(r.setup.clockbits).moved(r.clock, 1);
+    r.recent = recent::aged(r.setup.life, r.recent);
+}
+
+// The refusals of an arriving packet, in their order.
+fn may_arrive(r: &Receiver, p: BareData) -> Result<(), Refusal>
+    requires { FitReceiver r.now × FitData r.now.setup p }
+    ensures { result ≡ answered (may_arrive (wrapped r.now.setup) r.now.setup p r.now (λ (n : ℕ). n) (λ (o : ℕ). 0)) tt }
+{
+    if !recent::passes(r.setup, r.recent, p.stamp) {
+        return Err(Refusal::Stale);
     }
+    let ahead = Range::new(r.setup.seqbits).apart(p.seq, r.nxt);
+    if r.setup.window <= ahead {
+        return Err(Refusal::Behind);
+    }
+    if r.window <= ahead {
+        return Err(Refusal::Beyond);
+    }
+    let at = Ring::new(r.setup.window).slot(p.seq);
+    if marks::is_marked(r.marks, at) {
+        return Err(Refusal::AlreadyStored);
+    }
+    Ok(())
 }
 
-pub fn ack(r: Receiver) -> BareAck
-    ensures { result ≡ ack_of r }
+// Units go to the row from nxt on, until a slot is not marked; recent becomes the packet's timestamp, and the window falls by the
+// count.
+fn deliver(r: &mut Receiver, stamp: u32, row: &mut [u64]) -> usize
+    requires { FitReceiver r.old × (r.old.setup.window ≤ length row.old) }
+    ensures { let s = r.old.setup in
+        let d = deliver (wrapped s).seq s.window s.window r.old.nxt r.old.slots r.old.marks in
+        Counts (advanced (wrapped s) s stamp r.old d) (Ok result) r.new row.old row.new }
 {
-    lent::ack(head(r))
-}
-
-pub fn tick(r: Receiver) -> Receiver
-    requires { FitReceiver r }
-    ensures { result ≡ ticked_receiver (wrapped r.setup) r.setup r }
-{
-    let slots = r.slots;
-    whole(lent::tick(head(r)), slots)
+    let ring = Ring::new(r.setup.window);
+    let seqs = Range::new(r.setup.seqbits);
+    let mut k = 0;
+    // This form is fixed: a loop that yields its count by `break`, at the first slot without a mark.
+    let count = loop {
+        let at = ring.slot(r.nxt);
+        if !marks::is_marked(r.marks, at) {
+            break k;
+        }
+        let i = at as usize;
+        row[k] = r.slots[i];
+        r.slots[i] = 0;
+        r.marks = marks::without_mark(r.marks, at);
+        r.nxt = seqs.moved(r.nxt, 1);
+        k += 1;
+    };
+    r.window -= count as u32;
+    r.recent = recent::since(stamp);
+    count
 }
 
 // Not malformed, for a setup that is admitted.
-pub fn formed(r: Receiver) -> bool
-    requires { FitSetup r.setup }
-    ensures { result ≡ formed_receiver (wrapped r.setup) r.setup r }
+pub fn formed(r: &Receiver) -> bool
+    requires { FitSetup r.now.setup }
+    ensures { result ≡ formed_receiver (wrapped r.now.setup) r.now.setup r.now }
 {
-    let slots = r.slots;
-    numbers::inner::in_range(r.nxt, r.setup.seqbits)
+    Range::new(r.setup.seqbits).contains(r.nxt)
         & (r.window <= r.setup.window)
-        & numbers::inner::in_range(r.clock, r.setup.clockbits)
-        & numbers::inner::recent::formed(r.setup, r.recent)
-        & right_ahead(slots, r.marks, r.nxt, r.window, r.setup.window)
-        & unused_above(slots, r.marks, r.setup.window)
+        & Range::new(r.setup.clockbits).contains(r.clock)
+        & recent::formed(r.setup, r.recent)
+        & right_ahead(r)
+        & unused_above(r)
 }
 
 // The slot d ahead of nxt: marked, and d from 1 to window - 1; or not marked, and it holds nothing.
-fn right_at(slots: [u64; 64], marks: u64, nxt: u32, window: u32, ring: u32, d: u32) -> bool
-    requires { (1 ≤ ring) × (ring ≤ 64) }
-    ensures { result ≡ right_ahead ring slots marks nxt window d }
+fn right_at(r: &Receiver, d: u32) -> bool
+    requires { (1 ≤ r.now.setup.window) × (r.now.setup.window ≤ 64) }
+    ensures { result ≡ right_ahead r.now.setup.window r.now.slots r.now.marks r.now.nxt r.now.window d }
 {
-    let at = numbers::inner::slot_ahead(nxt, d, ring);
-    if numbers::inner::marks::is_marked(marks, at) {
-        (1 <= d) & (d < window)
+    let at = Ring::new(r.setup.window).slot_ahead(r.nxt, d);
+    if marks::is_marked(r.marks, at) {
+        (1 <= d) & (d < r.window)
     } else {
-        let i = at as usize;
-        slots[i] == 0
+        r.slots[at as usize] == 0
     }
 }
 
 // So is every slot of the ring.
-fn right_ahead(slots: [u64; 64], marks: u64, nxt: u32, window: u32, ring: u32) -> bool
-    requires { (1 ≤ ring) × (ring ≤ 64) }
-    ensures { result ≡ all_from (right_ahead ring slots marks nxt window) 0 ring }
+fn right_ahead(r: &Receiver) -> bool
+    requires { FitSetup r.now.setup }
+    ensures { result ≡ all_from (right_ahead r.now.setup.window r.now.slots r.now.marks r.now.nxt r.now.window) 0 r.now.setup.window }
 {
-    let mut d: u32 = 0;
-    while d < ring {
-        if !right_at(slots, marks, nxt, window, ring, d) {
-            return false;
-        }
-        d += 1;
-    }
-    true
+    (0..r.setup.window).all(|d| right_at(r, d))
 }
 
-fn unused_at(slots: [u64; 64], marks: u64, i: u32) -> bool
+fn unused_at(r: &Receiver, i: u32) -> bool
     requires { i < 64 }
-    ensures { result ≡ unused slots marks i }
+    ensures { result ≡ unused r.now.slots r.now.marks i }
 {
-    let at = i as usize;
-    (slots[at] == 0) & !numbers::inner::marks::is_marked(marks, i)
+    (r.slots[i as usize] == 0) & !marks::is_marked(r.marks, i)
 }
 
 // The slots from RW up are neither marked nor in use.
-fn unused_above(slots: [u64; 64], marks: u64, ring: u32) -> bool
-    requires { ring ≤ 64 }
-    ensures { result ≡ all_from (unused slots marks) ring (64 - ring) }
+fn unused_above(r: &Receiver) -> bool
+    requires { FitSetup r.now.setup }
+    ensures { result ≡ all_from (unused r.now.slots r.now.marks) r.now.setup.window (64 - r.now.setup.window) }
 {
-    let mut i = ring;
-    while i < 64 {
-        if !unused_at(slots, marks, i) {
-            return false;
-        }
-        i += 1;
-    }
-    true
+    (r.setup.window..64).all(|i| unused_at(r, i))
 }

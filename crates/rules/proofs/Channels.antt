@@ -1,33 +1,29 @@
 -- What the code does to a channel's array and count, as the rules' list of packets: over either channel, where it is not malformed.
 use mathlib.Core.Path.{◌≡◌, ap, sym, ◌∙◌}
-use mathlib.Core.Bool.{Bool, false}
+use mathlib.Core.Bool.{Bool, true, false}
 use mathlib.Core.List.{List, [], ◌∷◌, ◌++◌}
-use Prim.Native.Nat.{ℕ, ◌+◌, ◌-◌, ◌≤◌, ◌<◌}
+use Prim.Native.Nat.{ℕ, ◌+◌, ◌-◌, ◌<◌}
 use native.Mathlib.Omega.{arith}
-use lib.ListN.{length, get_or, set, length-append, length-take}
-use lib.Seq.{length-take-le, get_or-take}
-use borrow.Author.Tests.{le-leb, lt-leb}
-use Rattle.rules.specs.declared.DataChannel.{DataChannel}
-use Rattle.rules.specs.declared.AckChannel.{AckChannel}
-use Rattle.rules.specs.Numbers.{wrapped}
+use lib.ListN.{length, set, length-append, length-take}
+use lib.Seq.{length-take-le}
+use borrow.Author.Tests.{lt-leb}
+use Rattle.rules.specs.declared.Channel.{Channel}
+use Rattle.rules.specs.declared.Setup.{Setup}
 use Rattle.rules.specs.Setups.{◌also◌}
 use Rattle.rules.specs.Rows.{row, remove, closed}
-use Rattle.rules.specs.Parts.{Channel, live, data_channel, ack_channel}
-use Rattle.rules.specs.Malformed.{formed_channel, malformed_data_channel, malformed_ack_channel}
-use Rattle.rules.specs.Places.{right_places}
+use Rattle.rules.specs.Parts.{Kind, live, kind}
+use Rattle.rules.specs.Malformed.{formed_channel, malformed_channel}
 use Rattle.rules.specs.Fit.{FitSetup, FitChannel}
-use Rattle.rules.specs.Events.{packet_at}
 use Rattle.rules.proofs.Tests.{both, passes}
-use Rattle.rules.proofs.Loops.{by_places}
 use Rattle.rules.proofs.Rows.{row_added, row_removed, length_row, length_remove}
-use Rattle.rules.proofs.Fits.{limits, fit_setup, fit_datas, fit_acks}
+use Rattle.rules.proofs.Fits.{limits, fit_setup, fit_kind}
 
 -- an empty place
-abbrev pub empty : {H P C : Type 0} → Channel H P C → P
+abbrev pub empty : {H P C : Type 0} → Kind H P C → P
 empty K = K.new K.nothing
 
 -- ---- a channel that is fit: its array and its count after an operation
-module _ {H P C : Type 0} (K : Channel H P C) (c : C) (f : FitChannel K c) where
+module _ {H P C : Type 0} (K : Kind H P C) (c : C) (f : FitChannel K c) where
   -- the array has 32 places, and as many packets as the count says
   pub length_packets : length (K.packets c) ≡ 32
   length_packets =
@@ -35,10 +31,6 @@ module _ {H P C : Type 0} (K : Channel H P C) (c : C) (f : FitChannel K c) where
 
   pub length_live : length (live K c) ≡ K.count c
   length_live = length-take-le (K.count c) (K.packets c) (omega (arith, f.few, length_packets))
-
-  -- the packet at a place of the array is the packet at that place
-  pub found : (j : ℕ) → j < K.count c → get_or (K.packets c) j (empty K) ≡ packet_at K j c
-  found j h = sym (get_or-take (K.count c) (K.packets c) j (empty K) h)
 
   -- a packet stored at the first empty place
   pub packets_added : (p : P) → K.count c < 32 → set (K.packets c) (K.count c) p ≡ row (empty K) (live K c ++ p ∷ [])
@@ -60,25 +52,15 @@ module _ {H P C : Type 0} (K : Channel H P C) (c : C) (f : FitChannel K c) where
   length_removed j h = omega (arith, length_live, length_remove (empty K) j (live K c) (omega (arith, length_live)))
 
 -- ---- the test of a channel
-module _ {H P C : Type 0} (K : Channel H P C) (right : P → Bool) (c : C) where
+module _ {H P C : Type 0} (K : Kind H P C) (right : P → Bool) (c : C) where
   pub formed_many : 32 < K.count c → false ≡ formed_channel K right c
   unfolding formed_channel ◌also◌
   formed_many h = rw (lt-leb (K.count c) 32 h)
 
-  -- with few enough packets it is the test of each place
-  pub formed_places : K.count c ≤ 32 → length (K.packets c) ≡ 32 → right_places K right (K.count c) (K.packets c) ≡ formed_channel K right c
-  unfolding formed_channel right_places ◌also◌
-  formed_places h n = rw (le-leb (K.count c) 32 h) (rw (← n) (sym (by_places (empty K) right K.is_nothing (K.count c) (K.packets c))))
-
 -- ---- a channel that is not malformed: its setup is admitted, and it is fit. A value of the type has 32 places
-pub sound_datas : (c : DataChannel) → length c.packets ≡ 32 → malformed_data_channel wrapped c ≡ false
-    → FitSetup c.setup × FitChannel data_channel c
-unfolding malformed_data_channel
-sound_datas c n e =
-    let a = both (passes _ e) in (fit_setup (limits c.setup a.0), fit_datas _ c n a.1)
-
-pub sound_acks : (c : AckChannel) → length c.packets ≡ 32 → malformed_ack_channel wrapped c ≡ false
-    → FitSetup c.setup × FitChannel ack_channel c
-unfolding malformed_ack_channel
-sound_acks c n e =
-    let a = both (passes _ e) in (fit_setup (limits c.setup a.0), fit_acks _ c n a.1)
+module _ {P : Type 0} (none : P) (is_none : P → Bool) (only : (p : P) → is_none p ≡ true → p ≡ none) where
+  pub sound_channel : (right : Setup → P → Bool) (c : Channel P) → length c.packets ≡ 32
+      → malformed_channel (kind none is_none) right c ≡ false → FitSetup c.setup × FitChannel (kind none is_none) c
+  unfolding malformed_channel
+  sound_channel right c n e =
+      let a = both (passes _ e) in (fit_setup (limits c.setup a.0), fit_kind none is_none only _ c n a.1)

@@ -9,7 +9,7 @@ use Rattle.rules.specs.Setups.{◌also◌, is_window, in_limits, in_ranges, admi
 use Rattle.rules.specs.Marks.{marked, mark, unmark}
 use Rattle.rules.specs.Rows.{row}
 use Rattle.rules.specs.Parts.{is_no_data, is_no_ack, fresh_bench}
-use Rattle.rules.specs.Malformed.{all_from, every, formed_recent, formed_sender, formed_receiver, right_data, right_ack, formed_data, formed_ack, formed_channel, formed_bench, malformed_bench}
+use Rattle.rules.specs.Malformed.{all_from, every, formed_recent, formed_sender, formed_receiver, right_data, right_ack, formed_aged, formed_channel, formed_bench, malformed_bench}
 use Rattle.rules.specs.Events.{Event, accept, send, arrive, room, acknowledge, hear, dropd, dupd, tick, act}
 use Rattle.rules.specs.Operations.{step}
 use Rattle.rules.specs.Runs.{Said, run}
@@ -46,5 +46,5 @@ pub slips :
     × (answers idle ≡ all_done 8)
     × (answers copied ≡ all_done 8 ++ only 4 ∷ [])
     × (answers smaller ≡ all_done 6)
-unfolding run step act dist marked mark unmark row malformed_bench formed_bench formed_sender formed_receiver formed_channel formed_data formed_ack right_data right_ack formed_recent is_no_data is_no_ack same_setup every all_from admitted in_limits in_ranges is_window ◌also◌
+unfolding run step act dist marked mark unmark row malformed_bench formed_bench formed_sender formed_receiver formed_channel formed_aged right_data right_ack formed_recent is_no_data is_no_ack same_setup every all_from admitted in_limits in_ranges is_window ◌also◌
 slips = (refl, refl, refl, refl)

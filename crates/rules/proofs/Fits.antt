@@ -11,21 +11,19 @@ use lib.ListN.{length, drop, replicate, length-take, length-drop, take-append-dr
 use lib.Pow.{pow_pos, pow-add, pow_mono}
 use borrow.Author.Tests.{leb-true, ltb-true, eqb-true}
 use Rattle.rules.specs.declared.Setup.{Setup}
+use Rattle.rules.specs.declared.Aged.{Aged}
+use Rattle.rules.specs.declared.Channel.{Channel}
 use Rattle.rules.specs.declared.Recent.{Recent}
 use Rattle.rules.specs.declared.Sender.{Sender}
 use Rattle.rules.specs.declared.Receiver.{Receiver}
 use Rattle.rules.specs.declared.BareData.{BareData}
 use Rattle.rules.specs.declared.BareAck.{BareAck}
-use Rattle.rules.specs.declared.DataPacket.{DataPacket}
-use Rattle.rules.specs.declared.AckPacket.{AckPacket}
-use Rattle.rules.specs.declared.DataChannel.{DataChannel}
-use Rattle.rules.specs.declared.AckChannel.{AckChannel}
 use Rattle.rules.specs.declared.Bench.{Bench}
 use Rattle.rules.specs.Numbers.{NS, NC, wrapped}
 use Rattle.rules.specs.Setups.{is_window, in_limits, in_ranges, admitted, same_setup}
 use Rattle.rules.specs.Rows.{row}
-use Rattle.rules.specs.Parts.{no_data, no_ack, new_data, new_ack, is_no_data, is_no_ack, Channel, live, data_channel, ack_channel}
-use Rattle.rules.specs.Malformed.{every, formed_recent, formed_sender, formed_receiver, right_data, right_ack, formed_data, formed_ack, formed_channel, malformed_sender, malformed_receiver, formed_bench, malformed_bench}
+use Rattle.rules.specs.Parts.{no_data, no_ack, new, is_no_data, is_no_ack, Kind, live, data_channel, ack_channel, kind}
+use Rattle.rules.specs.Malformed.{every, formed_recent, formed_sender, formed_receiver, right_data, right_ack, formed_aged, formed_channel, malformed_sender, malformed_receiver, formed_bench, malformed_bench}
 use Rattle.rules.specs.Fit.{FitSetup, FitRecent, FitSender, FitReceiver, FitData, FitAck, FitChannel, FitBench}
 use Rattle.rules.proofs.Tests.{both, ◌and◌, or_case, passes}
 use Rattle.rules.proofs.Loops.{all_at}
@@ -180,26 +178,26 @@ fit_receiver r e =
     let a = both (passes _ e) in formed_is_fit_receiver r (fit_setup (limits r.setup a.0)) a.1
 
 -- ---- a channel that is not malformed
-no_data_is : (p : DataPacket) → is_no_data p ≡ true → p ≡ new_data no_data
+pub no_data_is : (p : BareData) → is_no_data p ≡ true → p ≡ no_data
 unfolding is_no_data
 no_data_is p e =
-    let a = both e in let b = both a.0 in let c = both b.0 in
-    let q = eqb-true _ _ c.0 in let r = eqb-true _ _ c.1 in let s = eqb-true _ _ b.1 in let t = eqb-true _ _ a.1 in
-    λ i. record { seq = q i; stamp = r i; unit = s i; age = t i }
+    let a = both e in let b = both a.0 in
+    let q = eqb-true _ _ b.0 in let r = eqb-true _ _ b.1 in let s = eqb-true _ _ a.1 in
+    λ i. record { seq = q i; stamp = r i; unit = s i }
 
-no_ack_is : (p : AckPacket) → is_no_ack p ≡ true → p ≡ new_ack no_ack
+pub no_ack_is : (p : BareAck) → is_no_ack p ≡ true → p ≡ no_ack
 unfolding is_no_ack
 no_ack_is p e =
-    let a = both e in let b = both a.0 in let c = both b.0 in
-    let q = eqb-true _ _ c.0 in let r = eqb-true _ _ c.1 in let s = eqb-true _ _ b.1 in let t = eqb-true _ _ a.1 in
-    λ i. record { ack = q i; window = r i; stamp = s i; age = t i }
+    let a = both e in let b = both a.0 in
+    let q = eqb-true _ _ b.0 in let r = eqb-true _ _ b.1 in let s = eqb-true _ _ a.1 in
+    λ i. record { ack = q i; window = r i; stamp = s i }
 
 all_empty : {A : Type 0} (f : A → Bool) (z : A) → ((x : A) → f x ≡ true → x ≡ z) → (l : List A) → every f l ≡ true → l ≡ replicate (length l) z
 unfolding every
 all_empty f z h [] e = refl
 all_empty f z h (x ∷ l) e = let a = both e in ap₂ ◌∷◌ (h x a.0) (all_empty f z h l a.1)
 
-fit_channel : {H P C : Type 0} (K : Channel H P C) → ((x : P) → K.is_nothing x ≡ true → x ≡ K.new K.nothing)
+fit_channel : {H P C : Type 0} (K : Kind H P C) → ((x : P) → K.is_nothing x ≡ true → x ≡ K.new K.nothing)
     → (right : P → Bool) (c : C) → length (K.packets c) ≡ 32 → formed_channel K right c ≡ true → FitChannel K c
 unfolding formed_channel row
 fit_channel K is right c n e =
@@ -213,11 +211,16 @@ fit_channel K is right c n e =
           ∙ ap (live K c ++◌) (all_empty K.is_nothing (K.new K.nothing) is _ a.1 ∙ ap (λ (x : ℕ). replicate x (K.new K.nothing)) k);
     }
 
-pub fit_datas : (right : DataPacket → Bool) (c : DataChannel) → length c.packets ≡ 32 → formed_channel data_channel right c ≡ true → FitChannel data_channel c
-fit_datas = fit_channel data_channel no_data_is
+-- an empty place, of a kind of packet whose test finds the packet that is all 0 and no other
+module _ {P : Type 0} (none : P) (is_none : P → Bool) (only : (p : P) → is_none p ≡ true → p ≡ none) where
+  empty_is : (x : Aged P) → (kind none is_none).is_nothing x ≡ true → x ≡ new none
+  empty_is x e =
+      let a = both e in let p = only x.packet a.0 in let g = eqb-true _ _ a.1 in
+      λ i. record { packet = p i; age = g i }
 
-pub fit_acks : (right : AckPacket → Bool) (c : AckChannel) → length c.packets ≡ 32 → formed_channel ack_channel right c ≡ true → FitChannel ack_channel c
-fit_acks = fit_channel ack_channel no_ack_is
+  pub fit_kind : (right : Aged P → Bool) (c : Channel P) → length c.packets ≡ 32 → formed_channel (kind none is_none) right c ≡ true
+      → FitChannel (kind none is_none) c
+  fit_kind = fit_channel (kind none is_none) empty_is
 
 -- ---- a bench that is not malformed
 every_so : {A : Type 0} (f g : A → Bool) → ((x : A) → f x ≡ true → g x ≡ true) → (l : List A) → every f l ≡ true → every g l ≡ true
@@ -225,12 +228,12 @@ unfolding every
 every_so f g h [] e = refl
 every_so f g h (x ∷ l) e = let a = both e in h x a.0 and every_so f g h l a.1
 
-channel_right : {H P C : Type 0} (K : Channel H P C) (right : P → Bool) (c : C) → formed_channel K right c ≡ true → every right (live K c) ≡ true
+channel_right : {H P C : Type 0} (K : Kind H P C) (right : P → Bool) (c : C) → formed_channel K right c ≡ true → every right (live K c) ≡ true
 unfolding formed_channel
 channel_right K right c e = (both (both e).0).1
 
 pub fit_bench : (b : Bench) → length b.datas.packets ≡ 32 → length b.acks.packets ≡ 32 → malformed_bench wrapped b ≡ false → FitBench b
-unfolding malformed_bench formed_bench formed_data formed_ack
+unfolding malformed_bench formed_bench formed_aged
 fit_bench b nd na e =
     let S = b.sender.setup in
     let a = both (passes _ e) in
@@ -242,8 +245,8 @@ fit_bench b nd na e =
       sender = formed_is_fit_sender b.sender f snd.1;
       receiver = formed_is_fit_receiver b.receiver (subst FitSetup er f)
           (subst (λ (T : Setup). formed_receiver (wrapped T) T b.receiver ≡ true) er rcv.1);
-      datas = fit_datas _ b.datas nd datas.1;
-      acks = fit_acks _ b.acks na acks.1;
+      datas = fit_kind no_data is_no_data no_data_is _ b.datas nd datas.1;
+      acks = fit_kind no_ack is_no_ack no_ack_is _ b.acks na acks.1;
       same_receiver = sym er;
       same_datas = sym (same_is S b.datas.setup sd.1);
       same_acks = sym (same_is S b.acks.setup sa.1);

@@ -6,11 +6,11 @@ pub mod Marks
 pub mod Deliveries
 pub mod Fits
 pub mod Channels
-pub mod Turns
 pub mod Benches
 pub mod Ends
 pub mod Session
 pub mod Examples
 pub mod Tight
+pub mod Refusals
 pub mod Agreement
 pub mod Reached

@@ -6,8 +6,8 @@ use Prim.Native.Nat.{ℕ, suc, zero, ◌+◌, ◌-◌, ◌≤◌, ◌<◌}
 use native.Mathlib.Numerals.{add-one}
 use native.Mathlib.Omega.{arith}
 use lib.Dec.{leb}
-use lib.ListN.{length, get_or, take, drop, set, replicate, length-set, length-append, length-take, length-drop, length-replicate, get_or-append}
-use lib.Seq.{take-suc, take-suc-set, drop-set-lt, drop-drop, get_or-drop, take_all, take-append-le, length-take-le, get_or-append-add, get_or-append_seam, take-append_seam}
+use lib.ListN.{length, get_or, take, drop, set, replicate, length-set, length-append, length-take, length-drop, length-replicate}
+use lib.Seq.{take-suc, take-suc-set, drop-set-lt, drop-drop, take_all, length-take-le, get_or-append-add, get_or-append_seam, take-append_seam}
 use borrow.Author.Tests.{le-leb, lt-leb}
 use Rattle.rules.specs.Rows.{row, remove, closed, aged}
 
@@ -20,9 +20,6 @@ module _ {A : Type 0} (d : A) where
   pub left_more : (out l : List A) (i : ℕ) (v : A) → drop i out ≡ drop i l → drop (i + 1) (set out i v) ≡ drop (i + 1) l
   left_more out l i v e =
       drop-set-lt (i + 1) out i v (omega arith) ∙ sym (drop-drop 1 i out) ∙ ap (λ (x : List A). drop 1 x) e ∙ drop-drop 1 i l
-
-  pub left_at : (out l : List A) (i k : ℕ) → drop i out ≡ drop i l → get_or out (i + k) d ≡ get_or l (i + k) d
-  left_at out l i k e = sym (get_or-drop i out k d) ∙ ap (λ (x : List A). get_or x k d) e ∙ get_or-drop i l k d
 
   -- all but the last place passed, and the last one written
   pub passed_all : (out r : List A) (n : ℕ) (v : A) → length out ≡ n + 1 → length r ≡ n + 1 → take n out ≡ take n r → v ≡ get_or r n d
@@ -37,28 +34,12 @@ module _ {A : Type 0} (z : A) (ps : List A) (j : ℕ) (h : j < length ps) where
   unfolding closed
   length_closed = simp (length-append, length-take, length-drop) (omega arith)
 
-  pub closed_before : take j ps ≡ take j (closed z ps j)
-  unfolding closed
-  closed_before =
-      sym (take_all j (take j ps) (omega (arith, length-take-le j ps (omega arith))))
-      ∙ sym (take-append-le j (take j ps) (drop (suc j) ps ++ (z ∷ [])) (omega (arith, length-take-le j ps (omega arith))))
-
   split : closed z ps j ≡ take j ps ++ (drop (suc j) ps ++ (z ∷ []))
   unfolding closed
   split = refl
 
   front : length (take j ps) ≡ j
   front = length-take-le j ps (omega arith)
-
-  -- past j stands what stood one place further
-  pub closed_at : (i : ℕ) → j ≤ i → i + 1 < length ps → get_or (closed z ps j) i z ≡ get_or ps (i + 1) z
-  closed_at i hj hi =
-      let k = i - j in
-      let e : i ≡ length (take j ps) + k = omega (arith, front) in
-      let f : suc j + k ≡ length (take j ps) + k + 1 = omega (arith, front) in
-      rw (split, e, get_or-append-add)
-      (get_or-append (drop (suc j) ps) (z ∷ []) z k (omega (arith, length-drop (suc j) ps))
-      ∙ get_or-drop (suc j) ps k z ∙ ap (λ (x : ℕ). get_or ps x z) f)
 
   pub closed_last : (n : ℕ) → length ps ≡ n + 1 → get_or (closed z ps j) n z ≡ z
   closed_last n hn =

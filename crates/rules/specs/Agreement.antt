@@ -6,10 +6,10 @@ use Rattle.rules.specs.declared.Setup.{Setup}
 use Rattle.rules.specs.declared.Recent.{Recent}
 use Rattle.rules.specs.declared.Sender.{Sender}
 use Rattle.rules.specs.declared.Receiver.{Receiver}
-use Rattle.rules.specs.declared.DataPacket.{DataPacket}
-use Rattle.rules.specs.declared.AckPacket.{AckPacket}
-use Rattle.rules.specs.declared.DataChannel.{DataChannel}
-use Rattle.rules.specs.declared.AckChannel.{AckChannel}
+use Rattle.rules.specs.Parts.{DataPacket}
+use Rattle.rules.specs.Parts.{AckPacket}
+use Rattle.rules.specs.Parts.{DataChannel}
+use Rattle.rules.specs.Parts.{AckChannel}
 use Rattle.rules.specs.declared.Bench.{Bench}
 use Rattle.rules.specs.Numbers.{NS, NC, wrapped, whole}
 use Rattle.rules.specs.Setups.{◌also◌, admitted}
@@ -47,10 +47,16 @@ module _ (S : Setup) where
   }
 
   abbrev pub wrap_data : DataPacket → DataPacket
-  wrap_data p = record { seq = p.seq % NS S; stamp = p.stamp % NC S; unit = p.unit; age = p.age }
+  wrap_data p = record {
+    packet = record { seq = p.packet.seq % NS S; stamp = p.packet.stamp % NC S; unit = p.packet.unit };
+    age = p.age;
+  }
 
   abbrev pub wrap_ack : AckPacket → AckPacket
-  wrap_ack p = record { ack = p.ack % NS S; window = p.window; stamp = p.stamp % NC S; age = p.age }
+  wrap_ack p = record {
+    packet = record { ack = p.packet.ack % NS S; window = p.packet.window; stamp = p.packet.stamp % NC S };
+    age = p.age;
+  }
 
   abbrev pub wrap_datas : DataChannel → DataChannel
   wrap_datas c = record { setup = c.setup; packets = map wrap_data c.packets; count = c.count }

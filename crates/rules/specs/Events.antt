@@ -8,13 +8,13 @@ use Rattle.rules.specs.declared.Sender.{Sender}
 use Rattle.rules.specs.declared.Receiver.{Receiver}
 use Rattle.rules.specs.declared.BareData.{BareData}
 use Rattle.rules.specs.declared.BareAck.{BareAck}
-use Rattle.rules.specs.declared.DataChannel.{DataChannel}
-use Rattle.rules.specs.declared.AckChannel.{AckChannel}
+use Rattle.rules.specs.Parts.{DataChannel}
+use Rattle.rules.specs.Parts.{AckChannel}
 use Rattle.rules.specs.declared.Bench.{Bench}
 use Rattle.rules.specs.Numbers.{Arith, Place, behind, ahead, place}
 use Rattle.rules.specs.Marks.{marked, mark, unmark}
 use Rattle.rules.specs.Rows.{remove, aged}
-use Rattle.rules.specs.Parts.{none, since, no_data, bare_data, bare_ack, Channel, live, data_channel, ack_channel}
+use Rattle.rules.specs.Parts.{none, since, no_data, Kind, live, data_channel, ack_channel}
 
 -- ---- what an event gives: the number, the units delivered, and the state that it leaves
 pub record Out (X : Type 0) : Type 0 where
@@ -221,7 +221,7 @@ may_find count j refuse go = cond (leb count j) (refuse 4) go
 abbrev pub may_add : {X : Type 0} → ℕ → (ℕ → X) → X → X
 may_add count refuse go = cond (leb 32 count) (refuse 5) go
 
-module _ {H P C : Type 0} (K : Channel H P C) where
+module _ {H P C : Type 0} (K : Kind H P C) where
   abbrev pub packet_at : ℕ → C → P
   packet_at j c = get_or (live K c) j (K.new K.nothing)
 
@@ -334,12 +334,12 @@ module _ (A : Arith) (S : Setup) where
   bench_data j n b =
       may_lend S n (refused b)
       (may_find b.datas.count j (refused b)
-      (on_receiver (without_data j b) (arriving A S (bare_data (packet_at data_channel j b.datas)) b.receiver)))
+      (on_receiver (without_data j b) (arriving A S (packet_at data_channel j b.datas).packet b.receiver)))
 
   abbrev pub bench_hear : ℕ → Bench → Out Bench
   bench_hear j b =
       may_find b.acks.count j (refused b)
-      (on_sender (without_ack j b) (hearing A S (bare_ack (packet_at ack_channel j b.acks)) b.sender))
+      (on_sender (without_ack j b) (hearing A S (packet_at ack_channel j b.acks).packet b.sender))
 
   abbrev pub bench_tick : Bench → Out Bench
   bench_tick b = done (record {

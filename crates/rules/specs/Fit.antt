@@ -11,7 +11,7 @@ use Rattle.rules.specs.Numbers.{NS, NC, wrapped}
 use Rattle.rules.specs.Marks.{marked}
 use Rattle.rules.specs.Rows.{row}
 use Rattle.rules.specs.declared.Bench.{Bench}
-use Rattle.rules.specs.Parts.{Channel, live, data_channel, ack_channel}
+use Rattle.rules.specs.Parts.{Kind, live, data_channel, ack_channel}
 use Rattle.rules.specs.Malformed.{every, right_data, right_ack}
 
 pub record FitSetup (S : Setup) : Type 0 where
@@ -57,7 +57,7 @@ pub record FitAck (S : Setup) (p : BareAck) : Type 0 where
   pub stamp : p.stamp < NC S
 
 -- a channel's array is the list of its packets and empty places
-pub record FitChannel {H P C : Type 0} (K : Channel H P C) (c : C) : Type 0 where
+pub record FitChannel {H P C : Type 0} (K : Kind H P C) (c : C) : Type 0 where
   pub few : K.count c ≤ 32
   pub rest : K.packets c ≡ row (K.new K.nothing) (live K c)
 

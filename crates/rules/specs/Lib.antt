@@ -1,13 +1,14 @@
 pub mod Numbers
+pub mod Refusals
 pub mod Setups
 pub mod Marks
 pub mod Rows
 pub mod Parts
 pub mod Malformed
-pub mod Places
 pub mod Fit
 pub mod Events
 pub mod Operations
+pub mod Asked
 pub mod One
 pub mod Runs
 pub mod Examples

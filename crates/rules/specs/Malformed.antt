@@ -6,15 +6,13 @@ use Rattle.rules.specs.declared.Sender.{Sender}
 use Rattle.rules.specs.declared.Receiver.{Receiver}
 use Rattle.rules.specs.declared.BareData.{BareData}
 use Rattle.rules.specs.declared.BareAck.{BareAck}
-use Rattle.rules.specs.declared.DataPacket.{DataPacket}
-use Rattle.rules.specs.declared.AckPacket.{AckPacket}
-use Rattle.rules.specs.declared.DataChannel.{DataChannel}
-use Rattle.rules.specs.declared.AckChannel.{AckChannel}
+use Rattle.rules.specs.declared.Aged.{Aged}
+use Rattle.rules.specs.declared.Channel.{Channel}
 use Rattle.rules.specs.declared.Bench.{Bench}
 use Rattle.rules.specs.Numbers.{Arith}
 use Rattle.rules.specs.Setups.{◌also◌, admitted, same_setup}
 use Rattle.rules.specs.Marks.{marked}
-use Rattle.rules.specs.Parts.{Channel, live, data_channel, ack_channel, bare_data, bare_ack}
+use Rattle.rules.specs.Parts.{DataPacket, AckPacket, DataChannel, AckChannel, Kind, live, data_channel, ack_channel}
 
 -- f holds at i and at the k - 1 numbers after it
 unfoldable pub all_from : (ℕ → Bool) → ℕ → ℕ → Bool
@@ -41,6 +39,10 @@ right_ahead R sl mk q w d = cond (marked mk ((q + d) % R)) (leb 1 d also ltb d w
 -- slot i, from RW up: neither marked nor in use
 abbrev pub unused : List ℕ → ℕ → ℕ → Bool
 unused sl mk i = empty_slot sl i also not (marked mk i)
+
+-- a packet that a channel holds: its fields are right, and its age is at most L
+unfoldable pub formed_aged : {P : Type 0} → (P → Bool) → ℕ → Aged P → Bool
+formed_aged right L p = right p.packet also leb p.age L
 
 module _ (A : Arith) (S : Setup) where
   -- recent: the timestamp in its range and the age at most L; or none, with both 0
@@ -75,18 +77,22 @@ module _ (A : Arith) (S : Setup) where
   right_ack p = A.seq_in p.ack also leb p.window S.window also A.clk_in p.stamp
 
   -- and so is the age of one that a channel holds
-  unfoldable pub formed_data : DataPacket → Bool
-  formed_data p = right_data (bare_data p) also leb p.age S.life
+  abbrev pub formed_data : DataPacket → Bool
+  formed_data = formed_aged right_data S.life
 
-  unfoldable pub formed_ack : AckPacket → Bool
-  formed_ack p = right_ack (bare_ack p) also leb p.age S.life
+  abbrev pub formed_ack : AckPacket → Bool
+  formed_ack = formed_aged right_ack S.life
 
 -- a channel: at most 32 packets, each as it should be, and nothing in the places past them
-unfoldable pub formed_channel : {H P C : Type 0} → Channel H P C → (P → Bool) → C → Bool
+unfoldable pub formed_channel : {H P C : Type 0} → Kind H P C → (P → Bool) → C → Bool
 formed_channel K right c =
     leb (K.count c) 32 also every right (live K c) also every K.is_nothing (drop (K.count c) (K.packets c))
 
 -- ---- malformed: each part by its own setup; the bench by the one setup of all four
+unfoldable pub malformed_channel : {P : Type 0} → Kind P (Aged P) (Channel P) → (Setup → P → Bool) → Channel P → Bool
+malformed_channel K right c =
+    not (admitted c.setup also formed_channel K (formed_aged (right c.setup) c.setup.life) c)
+
 module _ (A : Setup → Arith) where
   unfoldable pub malformed_sender : Sender → Bool
   malformed_sender s = not (admitted s.setup also formed_sender (A s.setup) s.setup s)
@@ -94,11 +100,11 @@ module _ (A : Setup → Arith) where
   unfoldable pub malformed_receiver : Receiver → Bool
   malformed_receiver r = not (admitted r.setup also formed_receiver (A r.setup) r.setup r)
 
-  unfoldable pub malformed_data_channel : DataChannel → Bool
-  malformed_data_channel c = not (admitted c.setup also formed_channel data_channel (formed_data (A c.setup) c.setup) c)
+  abbrev pub malformed_data_channel : DataChannel → Bool
+  malformed_data_channel = malformed_channel data_channel (λ S. right_data (A S) S)
 
-  unfoldable pub malformed_ack_channel : AckChannel → Bool
-  malformed_ack_channel c = not (admitted c.setup also formed_channel ack_channel (formed_ack (A c.setup) c.setup) c)
+  abbrev pub malformed_ack_channel : AckChannel → Bool
+  malformed_ack_channel = malformed_channel ack_channel (λ S. right_ack (A S) S)
 
   unfoldable pub formed_bench : Setup → Bench → Bool
   formed_bench S b =

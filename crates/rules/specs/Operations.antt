@@ -1,27 +1,19 @@
 -- The public operations: what each gives back on every input. An operation refuses a malformed state with 2, a short row with 8
 -- and a packet out of range with 3, in this order, and then does what the event's rule says. The contracts cite these.
-use Rattle.std.specs.Prelude.{Bool, cond, ℕ, length}
+use Rattle.std.specs.Prelude.{◌≡◌, Bool, cond, List, ℕ, eqb, length, Result, Ok, Err}
 use Rattle.rules.specs.declared.Setup.{Setup}
 use Rattle.rules.specs.declared.Sender.{Sender}
 use Rattle.rules.specs.declared.Receiver.{Receiver}
 use Rattle.rules.specs.declared.BareData.{BareData}
 use Rattle.rules.specs.declared.BareAck.{BareAck}
-use Rattle.rules.specs.declared.DataChannel.{DataChannel}
-use Rattle.rules.specs.declared.AckChannel.{AckChannel}
 use Rattle.rules.specs.declared.Bench.{Bench}
-use Rattle.rules.specs.declared.SenderDone.{SenderDone}
-use Rattle.rules.specs.declared.SenderSent.{SenderSent}
-use Rattle.rules.specs.declared.ReceiverDone.{ReceiverDone}
-use Rattle.rules.specs.declared.ReceiverAcked.{ReceiverAcked}
-use Rattle.rules.specs.declared.ReceiverTook.{ReceiverTook}
-use Rattle.rules.specs.declared.DataChannelDone.{DataChannelDone}
-use Rattle.rules.specs.declared.DataChannelTaken.{DataChannelTaken}
-use Rattle.rules.specs.declared.AckChannelDone.{AckChannelDone}
-use Rattle.rules.specs.declared.AckChannelTaken.{AckChannelTaken}
-use Rattle.rules.specs.declared.BenchDone.{BenchDone}
+use Rattle.rules.specs.declared.Refusal.{Refusal}
+use Rattle.rules.specs.declared.Refused.{Refused}
 use Rattle.rules.specs.Numbers.{Arith, wrapped}
+use Rattle.rules.specs.Refusals.{refusal, left, left_with}
 use Rattle.rules.specs.Setups.{admitted, zero_setup}
-use Rattle.rules.specs.Parts.{Channel, no_data, no_ack}
+use Rattle.rules.specs.Rows.{laid}
+use Rattle.rules.specs.Parts.{Kind, no_data, no_ack}
 use Rattle.rules.specs.Malformed.{right_data, right_ack, malformed_sender, malformed_receiver, malformed_bench}
 use Rattle.rules.specs.Events.{Out, refused, done, Made, gives, accepting, sending, may_lend, arriving, opening, ack_of, hearing, adding, taking, dropping, copying, ticked_channel, ticked_sender, ticked_receiver, Event, act}
 
@@ -73,7 +65,7 @@ module _ (r : Receiver) where
   receiver_tick = may_work (malformed_receiver wrapped r) (refused r) (done (ticked_receiver (wrapped r.setup) r.setup r))
 
 -- ---- either channel: `malformed` is its test, `right` the test of a packet handed over
-module _ {H P C : Type 0} (K : Channel H P C) (malformed : C → Bool) (c : C) where
+module _ {H P C : Type 0} (K : Kind H P C) (malformed : C → Bool) (c : C) where
   abbrev pub channel_add : (H → Bool) → H → Out C
   channel_add right p = may_work (malformed c) (refused c) (may_hand (right p) (refused c) (adding K p c))
 
@@ -95,34 +87,32 @@ module _ (A : Setup → Arith) where
   unfoldable pub step : Event → Bench → Out Bench
   step e b = may_work (malformed_bench A b) (refused b) (act (A b.sender.setup) b.sender.setup e b)
 
--- ---- as the code gives it back
-abbrev pub sender_done : Out Sender → SenderDone
-sender_done o = record { answer = o.answer; sender = o.state }
+-- ---- as the code gives it back: Ok, or Err with the refusal of the answer's number; and the state
+abbrev pub answered : {T : Type 0} → ℕ → T → Result T Refusal
+answered n t = cond (eqb n 0) (Ok t) (Err (refusal n))
 
-abbrev pub sender_sent : Made BareData Sender → SenderSent
-sender_sent m = record { answer = m.answer; packet = m.packet; sender = m.state }
+module _ {X : Type 0} where
+  abbrev pub returned : Out X → Result X (Refused X)
+  returned o = left (answered o.answer tt) o.state
 
-abbrev pub receiver_done : Out Receiver → ReceiverDone
-receiver_done o = record { answer = o.answer; receiver = o.state }
+  -- with the count of the delivered units; the lent row then holds `laid o.units row`
+  abbrev pub counted : Out X → Result (ℕ × X) (Refused X)
+  counted o = left_with (answered o.answer (length o.units)) o.state
 
-abbrev pub receiver_acked : Made BareAck Receiver → ReceiverAcked
-receiver_acked m = record { answer = m.answer; packet = m.packet; receiver = m.state }
+  -- with the packet
+  abbrev pub made : {H : Type 0} → Made H X → Result (H × X) (Refused X)
+  made m = left_with (answered m.answer m.packet) m.state
 
--- the lent row then holds `laid o.units row`
-abbrev pub receiver_took : Out Receiver → ReceiverTook
-receiver_took o = record { answer = o.answer; count = length o.units; receiver = o.state }
+  -- ---- and of the work on a state in place
+  pub record Does (o : Out X) (r : Result (Unit {0}) Refusal) (x : X) : Type 0 where
+    pub gives : r ≡ answered o.answer tt
+    pub leaves : x ≡ o.state
 
-abbrev pub data_channel_done : Out DataChannel → DataChannelDone
-data_channel_done o = record { answer = o.answer; channel = o.state }
+  pub record Counts (o : Out X) (r : Result ℕ Refusal) (x : X) (row₀ row : List ℕ) : Type 0 where
+    pub gives : r ≡ answered o.answer (length o.units)
+    pub leaves : x ≡ o.state
+    pub lent : row ≡ laid o.units row₀
 
-abbrev pub data_channel_taken : Made BareData DataChannel → DataChannelTaken
-data_channel_taken m = record { answer = m.answer; packet = m.packet; channel = m.state }
-
-abbrev pub ack_channel_done : Out AckChannel → AckChannelDone
-ack_channel_done o = record { answer = o.answer; channel = o.state }
-
-abbrev pub ack_channel_taken : Made BareAck AckChannel → AckChannelTaken
-ack_channel_taken m = record { answer = m.answer; packet = m.packet; channel = m.state }
-
-abbrev pub bench_done : Out Bench → BenchDone
-bench_done o = record { answer = o.answer; count = length o.units; bench = o.state }
+  pub record Makes {H : Type 0} (m : Made H X) (r : Result H Refusal) (x : X) : Type 0 where
+    pub gives : r ≡ answered m.answer m.packet
+    pub leaves : x ≡ m.state

@@ -6,10 +6,8 @@ use Rattle.rules.specs.declared.Sender.{Sender}
 use Rattle.rules.specs.declared.Receiver.{Receiver}
 use Rattle.rules.specs.declared.BareData.{BareData}
 use Rattle.rules.specs.declared.BareAck.{BareAck}
-use Rattle.rules.specs.declared.DataPacket.{DataPacket}
-use Rattle.rules.specs.declared.AckPacket.{AckPacket}
-use Rattle.rules.specs.declared.DataChannel.{DataChannel}
-use Rattle.rules.specs.declared.AckChannel.{AckChannel}
+use Rattle.rules.specs.declared.Aged.{Aged}
+use Rattle.rules.specs.declared.Channel.{Channel}
 use Rattle.rules.specs.declared.Bench.{Bench}
 use Rattle.rules.specs.Setups.{◌also◌}
 use Rattle.rules.specs.Rows.{row}
@@ -21,18 +19,22 @@ none = record { held = false; stamp = 0; age = 0 }
 abbrev pub since : ℕ → ℕ → Recent
 since t a = record { held = true; stamp = t; age = a }
 
--- ---- packets: with age 0, without their age, and all 0
-abbrev pub new_data : BareData → DataPacket
-new_data p = record { seq = p.seq; stamp = p.stamp; unit = p.unit; age = 0 }
+-- ---- packets: those that are handed over, and those that a channel holds, with an age
+abbrev pub DataPacket : Type 0
+DataPacket = Aged BareData
 
-abbrev pub new_ack : BareAck → AckPacket
-new_ack p = record { ack = p.ack; window = p.window; stamp = p.stamp; age = 0 }
+abbrev pub AckPacket : Type 0
+AckPacket = Aged BareAck
 
-abbrev pub bare_data : DataPacket → BareData
-bare_data p = record { seq = p.seq; stamp = p.stamp; unit = p.unit }
+abbrev pub DataChannel : Type 0
+DataChannel = Channel BareData
 
-abbrev pub bare_ack : AckPacket → BareAck
-bare_ack p = record { ack = p.ack; window = p.window; stamp = p.stamp }
+abbrev pub AckChannel : Type 0
+AckChannel = Channel BareAck
+
+-- with age 0
+abbrev pub new : {P : Type 0} → P → Aged P
+new p = record { packet = p; age = 0 }
 
 abbrev pub no_data : BareData
 no_data = record { seq = 0; stamp = 0; unit = 0 }
@@ -40,14 +42,14 @@ no_data = record { seq = 0; stamp = 0; unit = 0 }
 abbrev pub no_ack : BareAck
 no_ack = record { ack = 0; window = 0; stamp = 0 }
 
-unfoldable pub is_no_data : DataPacket → Bool
-is_no_data p = eqb p.seq 0 also eqb p.stamp 0 also eqb p.unit 0 also eqb p.age 0
+unfoldable pub is_no_data : BareData → Bool
+is_no_data p = eqb p.seq 0 also eqb p.stamp 0 also eqb p.unit 0
 
-unfoldable pub is_no_ack : AckPacket → Bool
-is_no_ack p = eqb p.ack 0 also eqb p.window 0 also eqb p.stamp 0 also eqb p.age 0
+unfoldable pub is_no_ack : BareAck → Bool
+is_no_ack p = eqb p.ack 0 also eqb p.window 0 also eqb p.stamp 0
 
 -- ---- a channel C of packets P, handed over as H: what the rules on channels need to know of it
-pub record Channel (H P C : Type 0) : Type 0 where
+pub record Kind (H P C : Type 0) : Type 0 where
   pub packets : C → List P
   pub count : C → ℕ
   pub fill : C → List P → C
@@ -59,34 +61,28 @@ pub record Channel (H P C : Type 0) : Type 0 where
   pub older : P → P
 
 -- the packets in it, in order
-abbrev pub live : {H P C : Type 0} → Channel H P C → C → List P
+abbrev pub live : {H P C : Type 0} → Kind H P C → C → List P
 live K c = take (K.count c) (K.packets c)
 
-abbrev pub data_channel : Channel BareData DataPacket DataChannel
-data_channel = record {
+-- channels of one kind of packet, of which `none` is all 0 and `is_none` is its test
+abbrev pub kind : {P : Type 0} → P → (P → Bool) → Kind P (Aged P) (Channel P)
+kind none is_none = record {
   packets = λ c. c.packets;
   count = λ c. c.count;
-  fill = λ c l. record { setup = c.setup; packets = row (new_data no_data) l; count = length l };
-  nothing = no_data;
-  is_nothing = is_no_data;
-  new = new_data;
-  bare = bare_data;
+  fill = λ c l. record { setup = c.setup; packets = row (new none) l; count = length l };
+  nothing = none;
+  is_nothing = λ p. is_none p.packet also eqb p.age 0;
+  new = new;
+  bare = λ p. p.packet;
   age = λ p. p.age;
-  older = λ p. record { seq = p.seq; stamp = p.stamp; unit = p.unit; age = suc p.age };
+  older = λ p. record { packet = p.packet; age = suc p.age };
 }
 
-abbrev pub ack_channel : Channel BareAck AckPacket AckChannel
-ack_channel = record {
-  packets = λ c. c.packets;
-  count = λ c. c.count;
-  fill = λ c l. record { setup = c.setup; packets = row (new_ack no_ack) l; count = length l };
-  nothing = no_ack;
-  is_nothing = is_no_ack;
-  new = new_ack;
-  bare = bare_ack;
-  age = λ p. p.age;
-  older = λ p. record { ack = p.ack; window = p.window; stamp = p.stamp; age = suc p.age };
-}
+abbrev pub data_channel : Kind BareData DataPacket DataChannel
+data_channel = kind no_data is_no_data
+
+abbrev pub ack_channel : Kind BareAck AckPacket AckChannel
+ack_channel = kind no_ack is_no_ack
 
 -- ---- fresh: both numbers are the starting number, each clock its starting clock, and everything else is 0
 abbrev pub fresh_sender : Setup → Sender
@@ -97,11 +93,14 @@ abbrev pub fresh_receiver : Setup → Receiver
 fresh_receiver S = record
     { setup = S; nxt = S.seq; window = 0; clock = S.rclock; recent = none; slots = replicate 64 0; marks = 0 }
 
+abbrev pub fresh_channel : {P : Type 0} → P → Setup → Channel P
+fresh_channel none S = record { setup = S; packets = row (new none) []; count = 0 }
+
 abbrev pub fresh_data_channel : Setup → DataChannel
-fresh_data_channel S = record { setup = S; packets = row (new_data no_data) []; count = 0 }
+fresh_data_channel = fresh_channel no_data
 
 abbrev pub fresh_ack_channel : Setup → AckChannel
-fresh_ack_channel S = record { setup = S; packets = row (new_ack no_ack) []; count = 0 }
+fresh_ack_channel = fresh_channel no_ack
 
 abbrev pub fresh_bench : Setup → Bench
 fresh_bench S = record

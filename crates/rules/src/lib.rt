@@ -1,8 +1,13 @@
-// What the parts hold and what their operations give back. There is no function here: the rules over these records are in specs/.
+// What the parts hold and what their operations give back. The rules over these records are in specs/.
 #![tactic(auto)]
 
+ghost use Rattle.std.specs.Prelude.{◌≡◌, ⊤};
+ghost use Rattle.rules.specs.Refusals.{number, left, left_with, answer_of};
+
+use std::alloc::AllocError;
+
 // The eight numbers that every part carries.
-#[derive(Clone, Copy)]
+#[derive(Clone, Copy, PartialEq, Eq, Default)]
 pub struct Setup {
     pub window: u32,
     pub seqbits: u32,
@@ -15,13 +20,15 @@ pub struct Setup {
 }
 
 // A remembered timestamp with its age; where none is held, both are 0.
-#[derive(Clone, Copy)]
+// No `Option`: a state with `held` false and another value beside it is malformed, and `malformed` of an end is asked of such states too.
+#[derive(Clone, Copy, PartialEq, Eq, Default)]
 pub struct Recent {
     pub held: bool,
     pub stamp: u32,
     pub age: u32,
 }
 
+// The ends' slots are arrays with numbers beside them: the memory is fixed, and any numbers make a state that `malformed` is asked of.
 #[derive(Clone, Copy)]
 pub struct Sender {
     pub setup: Setup,
@@ -46,123 +53,133 @@ pub struct Receiver {
 }
 
 // Packets as they are handed to an end or a channel: without an age.
-#[derive(Clone, Copy)]
+#[derive(Clone, Copy, PartialEq, Eq, Default)]
 pub struct BareData {
     pub seq: u32,
     pub stamp: u32,
     pub unit: u64,
 }
 
-#[derive(Clone, Copy)]
+#[derive(Clone, Copy, PartialEq, Eq, Default)]
 pub struct BareAck {
     pub ack: u32,
     pub window: u32,
     pub stamp: u32,
 }
 
-// Packets as a channel holds them.
+// A packet as a channel holds it.
 #[derive(Clone, Copy)]
-pub struct DataPacket {
-    pub seq: u32,
-    pub stamp: u32,
-    pub unit: u64,
+pub struct Aged<P> {
+    pub packet: P,
     pub age: u32,
 }
 
-#[derive(Clone, Copy)]
-pub struct AckPacket {
-    pub ack: u32,
-    pub window: u32,
-    pub stamp: u32,
-    pub age: u32,
-}
-
-#[derive(Clone, Copy)]
-pub struct DataChannel {
+// At most 32 packets in order; the places past `count` are all 0.
+// No slice or `Vec`: the memory is fixed, and a state with something past `count` is one that `malformed` is asked of.
+#[derive(Copy)]
+pub struct Channel<P> {
     pub setup: Setup,
-    pub packets: [DataPacket; 32],
+    pub packets: [Aged<P>; 32],
     pub count: u32,
 }
 
-#[derive(Clone, Copy)]
-pub struct AckChannel {
-    pub setup: Setup,
-    pub packets: [AckPacket; 32],
-    pub count: u32,
+// Not derived: a derive clones the array, and over an array of a type parameter its proof did not close.
+impl<P: Copy> Clone for Channel<P> {
+    ghost is_clone = { λ x y. y ≡ x };
+
+    ghost is_infallible = { λ _. ⊤ };
+
+    fn clone(&self) -> Result<Self, AllocError> {
+        Ok(*self)
+    }
 }
 
 #[derive(Clone, Copy)]
 pub struct Bench {
     pub sender: Sender,
     pub receiver: Receiver,
-    pub datas: DataChannel,
-    pub acks: AckChannel,
+    pub datas: Channel<BareData>,
+    pub acks: Channel<BareAck>,
 }
 
-// What an operation gives back: the answer number first, the state last.
-#[derive(Clone, Copy)]
-pub struct SenderDone {
-    pub answer: u32,
-    pub sender: Sender,
+// An event of the bench, with its number: a unit, or the place of a unit or of a packet.
+#[derive(Clone, Copy, PartialEq, Eq)]
+pub enum Event {
+    Accept(u64),
+    Send(u64),
+    Data(u64),
+    Hear(u64),
+    DropD(u64),
+    DropA(u64),
+    DupD(u64),
+    DupA(u64),
+    Room,
+    Ack,
+    Tick,
 }
 
-#[derive(Clone, Copy)]
-pub struct SenderSent {
-    pub answer: u32,
-    pub packet: BareData,
-    pub sender: Sender,
+// Why an operation refuses, with the number that stands for it in a listing; 0 stands for none.
+#[derive(Clone, Copy, PartialEq, Eq)]
+pub enum Refusal {
+    NotAdmitted = 1,
+    Malformed = 2,
+    OutOfRange = 3,
+    Missing = 4,
+    Full = 5,
+    Closed = 6,
+    Spent = 7,
+    ShortRow = 8,
+    Stale = 9,
+    Behind = 10,
+    Beyond = 11,
+    AlreadyStored = 12,
+    WideOpen = 13,
 }
 
-#[derive(Clone, Copy)]
-pub struct ReceiverDone {
-    pub answer: u32,
-    pub receiver: Receiver,
+impl From<Refusal> for u32 {
+    ghost from_gives = { λ r n. n ≡ number r };
+
+    fn from(r: Refusal) -> u32 {
+        r as u32
+    }
 }
 
+// A refusal gives back the state that it leaves.
 #[derive(Clone, Copy)]
-pub struct ReceiverAcked {
-    pub answer: u32,
-    pub packet: BareAck,
-    pub receiver: Receiver,
+pub struct Refused<S> {
+    pub why: Refusal,
+    pub state: S,
 }
 
-// `count` units were written to the lent row.
-#[derive(Clone, Copy)]
-pub struct ReceiverTook {
-    pub answer: u32,
-    pub count: usize,
-    pub receiver: Receiver,
+// What an operation gives that worked on a state in place: the state, or the refusal with it.
+pub fn given<S: Copy>(done: Result<(), Refusal>, state: S) -> Result<S, Refused<S>>
+    ensures { result ≡ left done state }
+{
+    match done {
+        Ok(()) => Ok(state),
+        Err(why) => Err(Refused { why, state }),
+    }
 }
 
-#[derive(Clone, Copy)]
-pub struct DataChannelDone {
-    pub answer: u32,
-    pub channel: DataChannel,
+// The same of one that makes a packet, or counts units. Two functions: in one, who makes nothing would take a pair apart.
+pub fn given_with<T: Copy, S: Copy>(
+    made: Result<T, Refusal>,
+    state: S,
+) -> Result<(T, S), Refused<S>>
+    ensures { result ≡ left_with made state }
+{
+    match made {
+        Ok(x) => Ok((x, state)),
+        Err(why) => Err(Refused { why, state }),
+    }
 }
 
-#[derive(Clone, Copy)]
-pub struct DataChannelTaken {
-    pub answer: u32,
-    pub packet: BareData,
-    pub channel: DataChannel,
-}
-
-#[derive(Clone, Copy)]
-pub struct AckChannelDone {
-    pub answer: u32,
-    pub channel: AckChannel,
-}
-
-#[derive(Clone, Copy)]
-pub struct AckChannelTaken {
-    pub answer: u32,
-    pub packet: BareAck,
-    pub channel: AckChannel,
-}
-
-#[derive(Clone, Copy)]
-pub struct BenchDone {
-    pub answer: u32,
-    pub count: usize,
-    pub bench: Bench,
+// The number of an answer: 0 where it was done.
+pub fn answer<T, S>(given: &Result<T, Refused<S>>) -> u32
+    ensures { result ≡ answer_of given.now }
+{
+    match given {
+        Ok(_) => 0,
+        Err(refused) => refused.why.into(),
+    }
 }

@@ -7,6 +7,7 @@ ghost use Rattle.listing.specs.Listing.{listing};
 ghost use Rattle.script.specs.Failed.{AppendsStart, ConsumesStart};
 
 use std::io::{self, Read, Write};
+use writer::inner::Line;
 
 // Reads until buf is full or the input ends: how many bytes it put at the start of buf. Where a read fails, what is gone from the
 // input stands there.
@@ -17,6 +18,7 @@ fn read_full<R: Read>(input: &mut R, buf: &mut [u8]) -> io::Result<usize>
     ensures whole { IfOk result (λ n. n < length buf.new → IsAtEnd (R.remaining input.new)) }
     ensures err { OnErr result (ConsumesStart (R.remaining input.old) (R.remaining input.new) buf.new) }
 {
+    // not std's `read_exact`: it fails where the input is shorter than buf, and does not say what it took before, as `err` does
     let mut done = 0;
     while done < buf.len() {
         let n = input.read(&mut buf[done..])?;
@@ -33,6 +35,7 @@ fn write_full<W: Write>(output: &mut W, buf: &[u8]) -> io::Result<()>
     ensures ok { OnOk result (Appends (W.contents output.old) (W.contents output.new) buf.now) }
     ensures err { OnErr result (AppendsStart (W.contents output.old) (W.contents output.new) buf.now) }
 {
+    // not std's `write_all`: it does not say what it wrote before it failed, as `err` does
     let mut done = 0;
     while done < buf.len() {
         let n = output.write(&buf[done..])?;
@@ -52,20 +55,19 @@ fn write_listing<W: Write>(output: &mut W, src: &[u8]) -> io::Result<()>
     ensures err { OnErr result
         (AppendsStart (W.contents output.old) (W.contents output.new) (listing src.now)) }
 {
-    let mut out = [0u8; 16384];
-    let mut s = listing::inner::first_line(src, &mut out);
-    let n = s.len;
-    write_full(output, &out[..n])?;
-    while s.more {
-        let run = s.run;
-        s = listing::inner::fill(src, run, &mut out, 0);
-        let n = s.len;
-        write_full(output, &out[..n])?;
+    let mut line = Line::new();
+    let mut left = listing::inner::first_line(src, &mut line);
+    write_full(output, line.as_bytes())?;
+    let mut row = [0u8; 16384];
+    while let Some(run) = left {
+        let part = listing::inner::fill(src, run, &mut row, 0);
+        write_full(output, &row[..part.end])?;
+        left = part.left;
     }
     Ok(())
 }
 
-// One byte more is read than a script may have, so that a script that is too long is seen.
+// One byte more is read than a script may have, so that a script that is too long is seen. No `Vec`: the memory is fixed.
 fn main(rt: HostRuntime) -> io::Result<()> {
     let mut script = [0u8; 65537];
     let n = read_full(&mut rt.stdin(), &mut script)?;

@@ -1,73 +1,16 @@
-// The sender's events on a sender that is not malformed, by value, and the test of whether it is. The work is in `lent`.
-ghost use Rattle.std.specs.Prelude.{◌≡◌, ◌-◌, ◌≤◌};
+// The sender's events in place, on a sender that is not malformed, and the test of whether it is.
+// What an admitted setup and a fit state have stays a `requires`: both are public and by value, others too, so a type that holds it
+// would stand beside each, and be copied into and out of at each event.
+ghost use Rattle.std.specs.Prelude.{◌≡◌, ◌-◌, ◌%◌, ◌^◌};
 ghost use Rattle.rules.specs.Numbers.{wrapped};
 ghost use Rattle.rules.specs.Parts.{fresh_sender};
 ghost use Rattle.rules.specs.Malformed.{all_from, empty_slot, empty_ahead, formed_sender};
 ghost use Rattle.rules.specs.Fit.{FitSetup, FitSender, FitAck};
-ghost use Rattle.rules.specs.Events.{accepting, sending, hearing, ticked_sender};
-ghost use Rattle.rules.specs.Operations.{sender_done, sender_sent};
-ghost use Rattle.sender.specs.Head.{sender_of, head_of};
+ghost use Rattle.rules.specs.Events.{accepting, sending, freed, hearing, ticked_sender};
+ghost use Rattle.rules.specs.Operations.{Does, Makes};
 
-use rules::{BareAck, BareData, Recent, Sender, SenderDone, SenderSent, Setup};
-
-pub mod lent;
-
-// A sender without its slots.
-#[derive(Clone, Copy)]
-pub struct SenderHead {
-    pub setup: Setup,
-    pub una: u32,
-    pub outstanding: u32,
-    pub granted: u32,
-    pub accepted: u32,
-    pub clock: u32,
-    pub recent: Recent,
-}
-
-#[derive(Clone, Copy)]
-pub struct HeadDone {
-    pub answer: u32,
-    pub head: SenderHead,
-}
-
-#[derive(Clone, Copy)]
-pub struct HeadSent {
-    pub answer: u32,
-    pub packet: BareData,
-}
-
-pub fn head(s: Sender) -> SenderHead
-    ensures { result ≡ head_of s }
-{
-    let setup = s.setup;
-    let recent = s.recent;
-    SenderHead {
-        setup,
-        una: s.una,
-        outstanding: s.outstanding,
-        granted: s.granted,
-        accepted: s.accepted,
-        clock: s.clock,
-        recent,
-    }
-}
-
-pub fn whole(h: SenderHead, slots: [u64; 64]) -> Sender
-    ensures { result ≡ sender_of h slots }
-{
-    let setup = h.setup;
-    let recent = h.recent;
-    Sender {
-        setup,
-        una: h.una,
-        outstanding: h.outstanding,
-        granted: h.granted,
-        accepted: h.accepted,
-        clock: h.clock,
-        recent,
-        slots,
-    }
-}
+use numbers::inner::{Range, Ring, recent};
+use rules::{BareAck, BareData, Recent, Refusal, Sender, Setup};
 
 // A sender at its start.
 pub fn first(s: Setup) -> Sender
@@ -80,106 +23,124 @@ pub fn first(s: Setup) -> Sender
         granted: 0,
         accepted: 0,
         clock: s.sclock,
-        recent: Recent {
-            held: false,
-            stamp: 0,
-            age: 0,
-        },
+        recent: Recent::default(),
         slots: [0; 64],
     }
 }
 
-pub fn accept(s: Sender, unit: u64) -> SenderDone
-    requires { FitSender s }
-    ensures { result ≡ sender_done (accepting (wrapped s.setup) s.setup unit s) }
+pub fn accept(s: &mut Sender, unit: u64) -> Result<(), Refusal>
+    requires { FitSender s.old }
+    ensures { Does (accepting (wrapped s.old.setup) s.old.setup unit s.old) result s.new }
 {
-    let mut slots = s.slots;
-    let o = lent::accept(head(s), &mut slots, unit);
-    let h = o.head;
-    SenderDone {
-        answer: o.answer,
-        sender: whole(h, slots),
+    if s.granted <= s.outstanding {
+        return Err(Refusal::Closed);
     }
+    if s.setup.rate <= s.accepted {
+        return Err(Refusal::Spent);
+    }
+    let q = Range::new(s.setup.seqbits).moved(s.una, s.outstanding);
+    let at = Ring::new(s.setup.window).slot(q) as usize;
+    s.slots[at] = unit;
+    s.outstanding += 1;
+    s.accepted += 1;
+    Ok(())
 }
 
-pub fn send(s: Sender, k: u64) -> SenderSent
-    requires { FitSender s }
-    ensures { result ≡ sender_sent (sending (wrapped s.setup) s.setup k s) }
+pub fn send(s: &Sender, k: u64) -> Result<BareData, Refusal>
+    requires { FitSender s.now }
+    ensures { Makes (sending (wrapped s.now.setup) s.now.setup k s.now) result s.now }
 {
-    let slots = s.slots;
-    let o = lent::send(head(s), &slots, k);
-    let p = o.packet;
-    SenderSent {
-        answer: o.answer,
-        packet: p,
-        sender: s,
+    if s.outstanding as u64 <= k {
+        return Err(Refusal::Missing);
     }
+    let seq = Range::new(s.setup.seqbits).moved(s.una, k as u32);
+    let at = Ring::new(s.setup.window).slot(seq) as usize;
+    Ok(BareData {
+        seq,
+        stamp: s.clock,
+        unit: s.slots[at],
+    })
 }
 
-pub fn hear(s: Sender, p: BareAck) -> SenderDone
-    requires { FitSender s × FitAck s.setup p }
-    ensures { result ≡ sender_done (hearing (wrapped s.setup) s.setup p s) }
+pub fn hear(s: &mut Sender, p: BareAck) -> Result<(), Refusal>
+    requires { FitSender s.old × FitAck s.old.setup p }
+    ensures { Does (hearing (wrapped s.old.setup) s.old.setup p s.old) result s.new }
 {
-    let mut slots = s.slots;
-    let o = lent::hear(head(s), &mut slots, p);
-    let h = o.head;
-    SenderDone {
-        answer: o.answer,
-        sender: whole(h, slots),
+    if !recent::passes(s.setup, s.recent, p.stamp) {
+        return Err(Refusal::Stale);
     }
+    let seqs = Range::new(s.setup.seqbits);
+    let o = seqs.apart(p.ack, s.una);
+    if s.setup.window < o {
+        return Err(Refusal::Behind);
+    }
+    if s.outstanding < o {
+        return Err(Refusal::Beyond);
+    }
+    if o == 0 {
+        s.granted = s.granted.max(p.window);
+    } else {
+        free(&mut s.slots, seqs, Ring::new(s.setup.window), s.una, o);
+        s.una = seqs.moved(s.una, o);
+        s.outstanding -= o;
+        s.granted = p.window;
+    }
+    s.recent = recent::since(p.stamp);
+    Ok(())
 }
 
-pub fn tick(s: Sender) -> Sender
-    requires { FitSender s }
-    ensures { result ≡ ticked_sender (wrapped s.setup) s.setup s }
+pub fn tick(s: &mut Sender)
+    requires { FitSender s.old }
+    ensures { s.new ≡ ticked_sender (wrapped s.old.setup) s.old.setup s.old }
 {
-    let slots = s.slots;
-    whole(lent::tick(head(s)), slots)
+    s.accepted = 0;
+    s.clock = Range::new(s.setup.clockbits).moved(s.clock, 1);
+    s.recent = recent::aged(s.setup.life, s.recent);
 }
 
 // Not malformed, for a setup that is admitted.
-pub fn formed(s: Sender) -> bool
-    requires { FitSetup s.setup }
-    ensures { result ≡ formed_sender (wrapped s.setup) s.setup s }
+pub fn formed(s: &Sender) -> bool
+    requires { FitSetup s.now.setup }
+    ensures { result ≡ formed_sender (wrapped s.now.setup) s.now.setup s.now }
 {
-    let slots = s.slots;
-    numbers::inner::in_range(s.una, s.setup.seqbits)
+    let ring = Ring::new(s.setup.window);
+    Range::new(s.setup.seqbits).contains(s.una)
         & (s.outstanding <= s.setup.window)
         & (s.granted <= s.setup.window)
         & (s.accepted <= s.setup.rate)
-        & numbers::inner::in_range(s.clock, s.setup.clockbits)
-        & numbers::inner::recent::formed(s.setup, s.recent)
-        & empty_ahead(slots, s.una, s.outstanding, s.setup.window)
-        & empty_above(slots, s.setup.window)
+        & Range::new(s.setup.clockbits).contains(s.clock)
+        & recent::formed(s.setup, s.recent)
+        & empty_ahead(&s.slots, ring, s.una, s.outstanding)
+        & empty_above(&s.slots, ring)
 }
 
-// The slots of the numbers from `from` up to RW - 1 after q hold nothing.
-fn empty_ahead(slots: [u64; 64], q: u32, from: u32, window: u32) -> bool
-    requires { (1 ≤ window) × (window ≤ 64) }
-    ensures { result ≡ all_from (empty_ahead window slots q) from (window - from) }
+// The slots of the numbers from `from` up to RW - 1 after q hold nothing. The slots and their ring, and not the sender: the ring has
+// its bounds as a type.
+fn empty_ahead(slots: &[u64; 64], ring: Ring, q: u32, from: u32) -> bool
+    ensures { result ≡ all_from (empty_ahead ring.window slots.now q) from (ring.window - from) }
 {
-    let mut d = from;
-    while d < window {
-        let i = numbers::inner::slot_ahead(q, d, window) as usize;
-        if slots[i] != 0 {
+    for d in from..ring.window {
+        if slots[ring.slot_ahead(q, d) as usize] != 0 {
             return false;
         }
-        d += 1;
     }
     true
 }
 
 // The slots from RW up hold nothing.
-fn empty_above(slots: [u64; 64], window: u32) -> bool
-    requires { window ≤ 64 }
-    ensures { result ≡ all_from (empty_slot slots) window (64 - window) }
+fn empty_above(slots: &[u64; 64], ring: Ring) -> bool
+    ensures { result ≡ all_from (empty_slot slots.now) ring.window (64 - ring.window) }
 {
-    let mut i = window as usize;
-    while i < 64 {
-        if slots[i] != 0 {
-            return false;
-        }
-        i += 1;
+    slots[ring.window as usize..].iter().all(|unit| *unit == 0)
+}
+
+// The slots of o units from una on, cleared.
+fn free(slots: &mut [u64; 64], seqs: Range, ring: Ring, una: u32, o: u32)
+    ensures { slots.new ≡ freed (λ x. x % 2 ^ seqs.bits) ring.window o una slots.old }
+{
+    let mut q = una;
+    for _ in 0..o {
+        slots[ring.slot(q) as usize] = 0;
+        q = seqs.moved(q, 1);
     }
-    true
 }

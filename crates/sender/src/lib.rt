@@ -1,105 +1,90 @@
-// The sender. Each operation takes the sender by value and gives it back; a malformed one is refused with 2 and given back as
-// it was.
+// The sender. Each operation takes the sender by value and gives it back; a malformed one is refused as `Malformed` and given back
+// as it was.
 #![tactic(auto)]
 
-ghost use Rattle.std.specs.Prelude.{◌≡◌};
+ghost use Rattle.std.specs.Prelude.{◌≡◌, IfOk};
 ghost use Rattle.rules.specs.Numbers.{wrapped};
 ghost use Rattle.rules.specs.Parts.{fresh_sender};
 ghost use Rattle.rules.specs.Malformed.{malformed_sender};
-ghost use Rattle.rules.specs.Operations.{begun, sender_accept, sender_send, sender_hear, sender_tick, sender_done, sender_sent};
+ghost use Rattle.rules.specs.Fit.{FitSender};
+ghost use Rattle.rules.specs.Events.{refused, done};
+ghost use Rattle.rules.specs.Operations.{begun, may_work, sender_accept, sender_send, sender_hear, sender_tick, returned, made};
 
-use rules::{BareAck, BareData, Sender, SenderDone, SenderSent, Setup};
+use numbers::packet::Packet;
+use rules::{BareAck, BareData, Refusal, Refused, Sender, Setup};
 
 pub mod inner;
 
-// A sender at its start; refused with 1, and all 0, where the setup is not admitted.
-pub fn fresh(s: Setup) -> SenderDone
-    ensures { result ≡ sender_done (begun fresh_sender s) }
+// A sender at its start; `NotAdmitted`, and all 0, where the setup is not admitted.
+pub fn fresh(s: Setup) -> Result<Sender, Refused<Sender>>
+    ensures { result ≡ returned (begun fresh_sender s) }
 {
     if setup::admitted(s) {
-        SenderDone {
-            answer: 0,
-            sender: inner::first(s),
-        }
+        Ok(inner::first(s))
     } else {
-        SenderDone {
-            answer: 1,
-            sender: inner::first(setup::zero()),
-        }
+        Err(Refused {
+            why: Refusal::NotAdmitted,
+            state: inner::first(setup::zero()),
+        })
     }
 }
 
 pub fn malformed(s: Sender) -> bool
     ensures { result ≡ malformed_sender wrapped s }
 {
-    if !setup::admitted(s.setup) {
-        return true;
-    }
-    !inner::formed(s)
+    !(setup::admitted(s.setup) && inner::formed(&s))
 }
 
-// Accepts a unit for sending: 6 where the window is closed, 7 where this tick's share is spent.
-pub fn accept(s: Sender, unit: u64) -> SenderDone
-    ensures { result ≡ sender_done (sender_accept s unit) }
+// The sender, if it is not malformed. `fresh`, `malformed` and this stand in each part: an impl of
+// a trait would have to stand below, with the part's type, and its test could not.
+fn checked(s: Sender) -> Result<Sender, Refused<Sender>>
+    ensures gives { result ≡ returned (may_work (malformed_sender wrapped s) (refused s) (done s)) }
+    ensures fit { IfOk result (λ next. FitSender next) }
 {
     if malformed(s) {
-        return SenderDone {
-            answer: 2,
-            sender: s,
-        };
+        return Err(Refused {
+            why: Refusal::Malformed,
+            state: s,
+        });
     }
-    inner::accept(s, unit)
+    Ok(s)
 }
 
-// The packet of the k-th outstanding unit, counted from 0: 4 where there is none.
-pub fn send(s: Sender, k: u64) -> SenderSent
-    ensures { result ≡ sender_sent (sender_send s k) }
+// Accepts a unit for sending: `Closed` where the window is closed, `Spent` where this tick's share is spent.
+pub fn accept(s: Sender, unit: u64) -> Result<Sender, Refused<Sender>>
+    ensures { result ≡ returned (sender_accept s unit) }
 {
-    if malformed(s) {
-        return SenderSent {
-            answer: 2,
-            packet: BareData {
-                seq: 0,
-                stamp: 0,
-                unit: 0,
-            },
-            sender: s,
-        };
-    }
-    inner::send(s, k)
+    let mut next = checked(s)?;
+    rules::given(inner::accept(&mut next, unit), next)
 }
 
-// Hears an acknowledgement: 3 where a field of it is out of range; 9, 10 or 11 where it is stale, behind or beyond.
-pub fn hear(s: Sender, p: BareAck) -> SenderDone
-    ensures { result ≡ sender_done (sender_hear s p) }
+// The packet of the k-th outstanding unit, counted from 0: `Missing` where there is none.
+pub fn send(s: Sender, k: u64) -> Result<(BareData, Sender), Refused<Sender>>
+    ensures { result ≡ made (sender_send s k) }
 {
-    if malformed(s) {
-        return SenderDone {
-            answer: 2,
-            sender: s,
-        };
+    let same = checked(s)?;
+    rules::given_with(inner::send(&same, k), same)
+}
+
+// Hears an acknowledgement: `OutOfRange` where a field of it is; `Stale`, `Behind` or `Beyond` where it is that.
+pub fn hear(s: Sender, p: BareAck) -> Result<Sender, Refused<Sender>>
+    ensures { result ≡ returned (sender_hear s p) }
+{
+    let mut next = checked(s)?;
+    if !p.in_range(next.setup) {
+        return Err(Refused {
+            why: Refusal::OutOfRange,
+            state: next,
+        });
     }
-    if !numbers::inner::packet::ack_in_range(s.setup, p) {
-        return SenderDone {
-            answer: 3,
-            sender: s,
-        };
-    }
-    inner::hear(s, p)
+    rules::given(inner::hear(&mut next, p), next)
 }
 
 // The clock moves by 1, and recent becomes one older.
-pub fn tick(s: Sender) -> SenderDone
-    ensures { result ≡ sender_done (sender_tick s) }
+pub fn tick(s: Sender) -> Result<Sender, Refused<Sender>>
+    ensures { result ≡ returned (sender_tick s) }
 {
-    if malformed(s) {
-        return SenderDone {
-            answer: 2,
-            sender: s,
-        };
-    }
-    SenderDone {
-        answer: 0,
-        sender: inner::tick(s),
-    }
+    let mut next = checked(s)?;
+    inner::tick(&mut next);
+    Ok(next)
 }

@@ -1,8 +1,6 @@
 -- The events of a run: a stream of numbers by xorshift64, and the event that a number stands for.
 use Rattle.std.specs.Prelude.{ℕ, ◌*◌, ◌/◌, ◌%◌, ◌^◌, cond, ◌==◌, bit_xor, nat_lt}
 use Rattle.rules.specs.Events.{Event, accept, send, arrive, room, acknowledge, hear, dropd, dropa, dupd, dupa, tick}
-use Rattle.soak.specs.declared.draw.Drawn.{Drawn}
-use Rattle.soak.specs.declared.draw.Drawn.TheVariants.{Accept, Send, Data, Hear, DropD, DropA, DupD, DupA, Room, Ack, Tick}
 
 unfoldable pub first_draw : ℕ → ℕ
 first_draw seed = cond (seed == 0) 88172645463325252 seed
@@ -38,17 +36,3 @@ choice x k v =
 
 unfoldable pub chosen : ℕ → Event
 chosen x = choice x (x % 32) (down 8 x)
-
--- the code's events as the rules have them
-abbrev pub as_event : Drawn → Event
-as_event (Accept u) = accept u
-as_event (Send k) = send k
-as_event (Data j) = arrive j 64
-as_event (Hear j) = hear j
-as_event (DropD j) = dropd j
-as_event (DropA j) = dropa j
-as_event (DupD j) = dupd j
-as_event (DupA j) = dupa j
-as_event Room = room
-as_event Ack = acknowledge
-as_event Tick = tick

@@ -1,12 +1,10 @@
 -- A long run: the rules' steps, one for each number of the stream, from the fresh bench of one setup.
-use Rattle.std.specs.Prelude.{◌≡◌, ℕ, zero, suc, ◌≤◌, List, length, take}
+use Rattle.std.specs.Prelude.{ℕ, zero, suc}
 use Rattle.rules.specs.declared.Setup.{Setup}
 use Rattle.rules.specs.declared.Bench.{Bench}
-use Rattle.rules.specs.declared.BenchDone.{BenchDone}
 use Rattle.rules.specs.Numbers.{wrapped}
 use Rattle.rules.specs.Parts.{fresh_bench}
-use Rattle.rules.specs.Events.{Out}
-use Rattle.rules.specs.Operations.{step, bench_done}
+use Rattle.rules.specs.Operations.{step}
 use Rattle.soak.specs.Draw.{first_draw, next_draw, chosen}
 use Rattle.soak.specs.Tally.{tallied}
 
@@ -22,10 +20,3 @@ soaked_from (suc n) x sum b =
 
 unfoldable pub soaked : ℕ → ℕ → ℕ
 soaked seed events = soaked_from events (first_draw seed) 0 (fresh_bench soak_setup)
-
--- an event as the code gives it back, with its units at the start of the row of 64 places
-pub record Ran (o : Out Bench) (row : List ℕ) (r : BenchDone) : Type 0 where
-  pub is : r ≡ bench_done o
-  pub units : take r.count row ≡ o.units
-  pub few : r.count ≤ length row
-  pub long : length row ≡ 64

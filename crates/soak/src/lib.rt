@@ -6,10 +6,11 @@ ghost use Rattle.std.specs.Prelude.{◌≡◌};
 ghost use Rattle.soak.specs.Run.{soak_setup, soaked};
 
 use rules::Setup;
+use way::{Tested, Untested, Way};
 
 mod draw;
-mod event;
 mod tally;
+mod way;
 
 // RW 8, 64 sequence numbers, 32 clock values, L 3, B 4; the numbers start near the end of their ranges.
 fn setup() -> Setup
@@ -27,42 +28,32 @@ fn setup() -> Setup
     }
 }
 
-// Each event goes through the bench's public operation, which tests the bench first.
-pub fn checked(seed: u64, events: u64) -> u64
-    ensures { result ≡ soaked seed events }
-{
-    let mut row = [0u64; 64];
-    let mut b = bench::fresh(setup()).bench;
-    let mut x = draw::first(seed);
-    let mut sum = 0;
-    let mut left = events;
-    while 0 < left {
-        let o = event::checked(b, draw::choose(x), &mut row);
-        sum = tally::summed(sum, o.answer, o.count, &row);
-        let next = o.bench;
-        b = next;
-        x = draw::next(x);
-        left -= 1;
-    }
-    sum
-}
-
-// No event tests the bench: a bench that is reached from fresh is never malformed.
-pub fn unchecked(seed: u64, events: u64) -> u64
+// The checksum of a run of so many events.
+fn run<W: Way>(seed: u64, events: u64) -> u64
     ensures { result ≡ soaked seed events }
 {
     let mut row = [0u64; 64];
     let mut b = bench::inner::first(setup());
     let mut x = draw::first(seed);
     let mut sum = 0;
-    let mut left = events;
-    while 0 < left {
-        let o = event::unchecked(b, draw::choose(x), &mut row);
-        sum = tally::summed(sum, o.answer, o.count, &row);
-        let next = o.bench;
-        b = next;
+    for _ in 0..events {
+        let given = W::apply(&mut b, draw::choose(x), &mut row);
+        sum = tally::tallied(sum, given, &row);
         x = draw::next(x);
-        left -= 1;
     }
     sum
+}
+
+// Two functions of one run, as C calls both. Each event goes through the bench's public operation, which tests the bench first.
+pub fn checked(seed: u64, events: u64) -> u64
+    ensures { result ≡ soaked seed events }
+{
+    run::<Tested>(seed, events)
+}
+
+// No event tests the bench: a bench that is reached from fresh is never malformed.
+pub fn unchecked(seed: u64, events: u64) -> u64
+    ensures { result ≡ soaked seed events }
+{
+    run::<Untested>(seed, events)
 }

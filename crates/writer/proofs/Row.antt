@@ -1,6 +1,7 @@
 -- Things written into a row one after another are one thing written.
-use Rattle.std.proofs.Common.{◌≡◌, ℕ, ◌+◌, ◌<◌, ◌≤◌, List, [], ◌∷◌, ◌++◌, length, take, drop, set, ap, sym, ◌∙◌, append_assoc, add-one, arith, length-append, take-append-drop, drop-drop}
-use Rattle.std.proofs.Math.Seq.{paste, take-paste, drop-paste, length-paste, take-length, set_split, take-append_seam}
+use Rattle.std.proofs.Common.{◌≡◌, ℕ, ◌+◌, ◌≤◌, List, [], ◌++◌, length, take, drop, ap, sym, ◌∙◌, append_assoc, arith, length-append, take-append-drop, drop-drop}
+use Rattle.std.proofs.Math.Seq.{paste, take-paste, drop-paste, length-paste, take-length, take-append_seam}
+use borrow.Rule.Slice.PartMut.{put_mid}
 use Rattle.writer.specs.Row.{put, Put}
 
 module _ (d : List ℕ) (at : ℕ) (s : List ℕ) where
@@ -29,9 +30,10 @@ module _ (d : List ℕ) (at : ℕ) (s : List ℕ) where
         ∙ ap (λ (x : List ℕ). take at d ++ s ++ (t ++ x)) (put_drop_more (length t))
         ∙ simp (append_assoc, length-append, e)
 
-pub put_one : (d : List ℕ) (at b : ℕ) → at < length d → set d at b ≡ put d at (b ∷ [])
+-- what `copy_from_slice` leaves of a row
+pub put_copied : (d : List ℕ) (at k : ℕ) (s : List ℕ) → k ≡ length s → put_mid at k d s ≡ put d at s
 unfolding put
-put_one d at b h = set_split d at b h ∙ rw (add-one at)
+put_copied d at k s e = rw (e, drop-drop (length s) at d)
 
 pub put_nothing : (d : List ℕ) (at : ℕ) → put d at [] ≡ d
 unfolding put
@@ -55,7 +57,3 @@ unfolding put
 put_start {d} {e} {s} {r} p =
     let n : r ≡ length s = omega (arith, p.next) in
     rw (p.row, n) (take-append_seam s (drop (0 + length s) d))
-
-pub put_within : {d e s : List ℕ} {r : ℕ} → Put d e 0 s r → r ≤ length e
-unfolding put
-put_within {d} {e} {s} {r} p = rw (p.row, p.next) (omega (arith, length-append s (drop (0 + length s) d)))

@@ -1,4 +1,4 @@
--- What is put into a row determines the row whole, and the place after it: so does each contract of the crate.
+-- What is put into a row determines the row whole, and the place after it. The other contracts of the crate are equations.
 use Rattle.std.specs.Prelude.{◌≡◌, ℕ, List}
 use Rattle.std.proofs.Common.{sym, ◌∙◌}
 use Rattle.writer.specs.Row.{Put}

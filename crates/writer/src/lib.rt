@@ -1,4 +1,4 @@
-// Writing a line of output into a lent row of bytes.
+// Writing a line of output.
 #![tactic(auto)]
 
 pub mod inner;

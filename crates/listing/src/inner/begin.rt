@@ -1,101 +1,61 @@
 // The setup lines, and the bench that they ask for.
-ghost use Rattle.std.specs.Prelude.{◌≡◌, ◌≤◌, length};
-ghost use Rattle.rules.specs.Operations.{bench_done};
-ghost use Rattle.listing.specs.Listing.{setup_of, in_fields};
-ghost use Rattle.listing.specs.Run.{SetupRead, opened, over};
+ghost use Rattle.std.specs.Prelude.{◌≡◌};
+ghost use Rattle.listing.specs.Listing.{setup_of};
+ghost use Rattle.listing.specs.Run.{SetupRead, fitting, opened};
 
-use super::{Run, Step};
-use reader::Value;
-use rules::{BenchDone, Setup};
+use rules::{Bench, Refusal, Setup};
 
-// The number of the first bad setup line, or 0; the place after the lines; their values.
+// The values of the setup lines, and the place after the lines.
 #[derive(Clone, Copy)]
 pub struct SetupLines {
-    pub bad: u64,
-    pub at: usize,
     pub values: [u64; 8],
+    pub end: usize,
 }
 
-pub fn read_lines(src: &[u8]) -> SetupLines
-    requires { length src.now ≤ 65536 }
+// The number of a setup line that is missing, unfinished or bad.
+#[derive(Clone, Copy)]
+pub struct BadLine {
+    pub number: u64,
+}
+
+#[tactic(auto, using(crate::proofs::Setups::open_done))]
+pub fn read_lines(src: &[u8]) -> Result<SetupLines, BadLine>
     ensures { SetupRead src.now result }
 {
     let mut values = [0u64; 8];
     let mut at = 0;
-    let mut i = 0;
-    while i < 8 {
-        let e = reader::inner::index(src, at, b'\n');
-        if e == src.len() {
-            return SetupLines {
-                bad: i as u64 + 1,
-                at,
-                values,
-            };
-        }
-        let v = reader::read_setup(&src[at..e], i + 1);
-        let Value::Is(x) = v else {
-            return SetupLines {
-                bad: i as u64 + 1,
-                at,
-                values,
-            };
+    for (i, value) in values.iter_mut().enumerate() {
+        let bad = BadLine {
+            number: i as u64 + 1,
         };
-        values[i] = x;
-        at = e + 1;
-        i += 1;
+        let end = reader::inner::index(src, at, b'\n').ok_or(bad)?;
+        *value = reader::read_setup(&src[at..end], i + 1).ok_or(bad)?;
+        at = end + 1;
     }
-    SetupLines { bad: 0, at, values }
+    Ok(SetupLines { values, end: at })
 }
 
-// Each value fits its field of 32 bits.
-fn fit(v: [u64; 8]) -> bool
-    ensures { result ≡ in_fields (setup_of v) }
+// The setup of the eight values, where each fits its field of 32 bits.
+#[tactic(auto, using(std::proofs::lemmas::Bool::Decides::nat_tests, crate::proofs::Setups::also_left, crate::proofs::Setups::also_right, crate::proofs::Setups::also_from), unfolding(crate::specs::Listing::in_fields))]
+fn to_setup(v: [u64; 8]) -> Option<Setup>
+    ensures { result ≡ fitting (setup_of v) }
 {
-    (v[0] < 4294967296)
-        & (v[1] < 4294967296)
-        & (v[2] < 4294967296)
-        & (v[3] < 4294967296)
-        & (v[4] < 4294967296)
-        & (v[5] < 4294967296)
-        & (v[6] < 4294967296)
-        & (v[7] < 4294967296)
+    Some(Setup {
+        window: u32::try_from(v[0]).ok()?,
+        seqbits: u32::try_from(v[1]).ok()?,
+        clockbits: u32::try_from(v[2]).ok()?,
+        life: u32::try_from(v[3]).ok()?,
+        rate: u32::try_from(v[4]).ok()?,
+        seq: u32::try_from(v[5]).ok()?,
+        sclock: u32::try_from(v[6]).ok()?,
+        rclock: u32::try_from(v[7]).ok()?,
+    })
 }
 
-// A fresh bench of the eight values; refused with 1 where one is too large for its field or the setup is not admitted.
-pub fn judge(v: [u64; 8]) -> BenchDone
-    ensures { result ≡ bench_done (opened (setup_of v)) }
+// A fresh bench of the eight values; refused where one is too large for its field or the setup is not admitted.
+pub fn judge(v: [u64; 8]) -> Result<Bench, Refusal>
+    ensures { result ≡ opened (setup_of v) }
 {
-    if fit(v) {
-        return bench::fresh(Setup {
-            window: v[0] as u32,
-            seqbits: v[1] as u32,
-            clockbits: v[2] as u32,
-            life: v[3] as u32,
-            rate: v[4] as u32,
-            seq: v[5] as u32,
-            sclock: v[6] as u32,
-            rclock: v[7] as u32,
-        });
-    }
-    BenchDone {
-        answer: 1,
-        count: 0,
-        bench: bench::inner::first(setup::zero()),
-    }
-}
-
-// A run that is over with its first line, of n bytes.
-pub fn over(n: usize) -> Step
-    ensures { result ≡ over n }
-{
-    Step {
-        len: n,
-        more: false,
-        run: Run {
-            at: 0,
-            line: 0,
-            event: 0,
-            bench: bench::inner::first(setup::zero()),
-        },
-    }
+    let setup = to_setup(v).ok_or(Refusal::NotAdmitted)?;
+    bench::fresh(setup).map_err(|refused| refused.why)
 }

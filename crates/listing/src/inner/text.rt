@@ -1,28 +1,31 @@
 // The lines of a listing that no event makes.
-ghost use Rattle.std.specs.Prelude.{◌+◌, ◌≤◌, length};
-ghost use Rattle.writer.specs.Row.{Put};
+ghost use Rattle.std.specs.Prelude.{◌≡◌, ◌+◌, ◌≤◌, length};
+ghost use Rattle.writer.specs.declared.inner.TheConstants.{CAPACITY};
 ghost use Rattle.listing.specs.Listing.{word_line, bad_line, setup_line};
 
-// A word, a space and a number, from the row's start.
-fn put_word(out: &mut [u8], word: &[u8], n: u64) -> usize
-    requires { length word.now + 22 ≤ length out.old }
-    ensures { Put out.old out.new 0 (word_line word.now n) result }
+use writer::inner::Line;
+
+// A word, a space and a number.
+#[tactic(auto, unfolding(crate::specs::Listing::word_line))]
+fn set_word(line: &mut Line, word: &[u8], n: u64)
+    requires { length word.now + 22 ≤ CAPACITY }
+    ensures { line.new ≡ word_line word.now n }
 {
-    let a = writer::inner::put_bytes(out, 0, word);
-    let b = writer::inner::put_spaced(out, a, n);
-    writer::inner::put_byte(out, b, b'\n')
+    line.clear();
+    line.push_bytes(word);
+    line.push_spaced(n);
+    line.push(b'\n');
 }
 
-pub fn put_bad(out: &mut [u8], line: u64) -> usize
-    requires { 2048 ≤ length out.old }
-    ensures { Put out.old out.new 0 (bad_line line) result }
+pub fn set_bad(line: &mut Line, number: u64)
+    ensures { line.new ≡ bad_line number }
 {
-    put_word(out, b"bad line", line)
+    set_word(line, b"bad line", number);
 }
 
-pub fn put_setup(out: &mut [u8], answer: u64) -> usize
-    requires { 2048 ≤ length out.old }
-    ensures { Put out.old out.new 0 (setup_line answer) result }
+// The answer is its number, as the line shows it.
+pub fn set_setup(line: &mut Line, answer: u64)
+    ensures { line.new ≡ setup_line answer }
 {
-    put_word(out, b"setup", answer)
+    set_word(line, b"setup", answer);
 }

@@ -1,4 +1,5 @@
 // The mark word: one bit for each of at most 64 slots.
+// `i < 64` stays a `requires`: a type of slots would be opened again at each array index, and be no plainer.
 ghost use Rattle.std.specs.Prelude.{◌≡◌, ◌<◌};
 ghost use Rattle.rules.specs.Marks.{marked, mark, unmark};
 

@@ -1,9 +1,12 @@
 // Recent, the remembered timestamp: tested against, made older, checked.
+// The bits are a `requires`: the setup is a public value, and its range is made in here.
 ghost use Rattle.std.specs.Prelude.{◌≡◌, ◌<◌, ◌≤◌};
 ghost use Rattle.rules.specs.Numbers.{wrapped, NC};
+ghost use Rattle.rules.specs.Parts.{since};
 ghost use Rattle.rules.specs.Malformed.{formed_recent};
 ghost use Rattle.rules.specs.Events.{passed, older};
 
+use super::Range;
 use rules::{Recent, Setup};
 
 // The timestamp test: a packet that fails it is stale.
@@ -14,33 +17,32 @@ pub fn passes(s: Setup, r: Recent, stamp: u32) -> bool
     if !r.held {
         return true;
     }
-    let d = super::apart(stamp, r.stamp, s.clockbits);
-    (d as u64) < super::size(s.clockbits) / 2
+    let clocks = Range::new(s.clockbits);
+    (clocks.apart(stamp, r.stamp) as u64) < clocks.size() / 2
+}
+
+// The timestamp of a packet that has just come.
+pub fn since(stamp: u32) -> Recent
+    ensures { result ≡ since stamp 0 }
+{
+    Recent {
+        held: true,
+        stamp,
+        age: 0,
+    }
 }
 
 // Recent after a tick: gone where its age would pass the packets' life.
 pub fn aged(life: u32, r: Recent) -> Recent
     ensures { result ≡ older life r }
 {
-    if !r.held {
+    if r.held && r.age < life {
         return Recent {
-            held: false,
-            stamp: 0,
-            age: 0,
-        };
-    }
-    if r.age < life {
-        return Recent {
-            held: true,
-            stamp: r.stamp,
             age: r.age + 1,
+            ..r
         };
     }
-    Recent {
-        held: false,
-        stamp: 0,
-        age: 0,
-    }
+    Recent::default()
 }
 
 pub fn formed(s: Setup, r: Recent) -> bool
@@ -48,8 +50,8 @@ pub fn formed(s: Setup, r: Recent) -> bool
     ensures { result ≡ formed_recent (wrapped s) s r }
 {
     if r.held {
-        super::in_range(r.stamp, s.clockbits) & (r.age <= s.life)
+        Range::new(s.clockbits).contains(r.stamp) & (r.age <= s.life)
     } else {
-        (r.stamp == 0) & (r.age == 0)
+        r == Recent::default()
     }
 }

@@ -11,11 +11,11 @@ use lib.ListN.{length, get_or, set}
 use Rattle.rules.specs.declared.Setup.{Setup}
 use Rattle.rules.specs.declared.Receiver.{Receiver}
 use Rattle.rules.specs.declared.BareData.{BareData}
-use Rattle.rules.specs.declared.DataPacket.{DataPacket}
+use Rattle.rules.specs.Parts.{DataPacket}
 use Rattle.rules.specs.declared.Bench.{Bench}
 use Rattle.rules.specs.Numbers.{wrapped, whole, NS, NC, Place}
 use Rattle.rules.specs.Marks.{marked, mark}
-use Rattle.rules.specs.Parts.{data_channel, bare_data}
+use Rattle.rules.specs.Parts.{data_channel}
 use Rattle.rules.specs.Events.{Out, refused, Delivery, and_first, deliver, may_store, advanced, stored, arriving, packet_at, without_data, bench_data}
 use Rattle.rules.specs.Agreement.{wrap_receiver, wrap_data, wrap}
 use Rattle.rules.proofs.Wrap.{place_agree, View, back, fore, view}
@@ -104,25 +104,25 @@ module _ (S : Setup) (v : Wide S) (log : ℕ → ℕ) where
     r' = wrap_receiver S b.receiver
 
     abbrev q' : BareData
-    q' = bare_data (wrap_data S p)
+    q' = (wrap_data S p).packet
 
     abbrev G : Out Receiver → Out Receiver → Type 0
     G = GoodReceiver S log b
 
-    accepted_before : p.seq < end b
+    accepted_before : p.packet.seq < end b
     accepted_before = omega (arith, sent_high i.line.fall o.sent)
 
     -- o = 0
-    good_advance : {w z : Delivery} → p.seq ≡ b.receiver.nxt
+    good_advance : {w z : Delivery} → p.packet.seq ≡ b.receiver.nxt
         → GoodRun S log (end b) b.receiver.nxt b.receiver.window w z
-        → G (advanced (wrapped S) S (p.stamp % NC S) r' w) (advanced (whole S) S p.stamp b.receiver z)
+        → G (advanced (wrapped S) S (p.packet.stamp % NC S) r' w) (advanced (whole S) S p.packet.stamp b.receiver z)
     good_advance {w} {z} e r =
         let moved = r.gave.moved in
         let up : i.past.g 0 ≤ z.nxt = omega arith in
         record {
           same = rw r.same;
           kept = record {
-            past = record { h = i.past.h; g = now z.nxt i.past.g; E = i.past.E; m = p.seq };
+            past = record { h = i.past.h; g = now z.nxt i.past.g; E = i.past.E; m = p.packet.seq };
             setups = i.setups;
             line = record {
               fall = i.line.fall;
@@ -154,17 +154,17 @@ module _ (S : Setup) (v : Wide S) (log : ℕ → ℕ) where
         }
 
     -- stored d ahead of nxt
-    good_stored : (d : ℕ) → p.seq ≡ b.receiver.nxt + d → d < S.window → d < b.receiver.window
-        → G (stored (wrapped S) S q' r' d) (stored (whole S) S (bare_data p) b.receiver d)
+    good_stored : (d : ℕ) → p.packet.seq ≡ b.receiver.nxt + d → d < S.window → d < b.receiver.window
+        → G (stored (wrapped S) S q' r' d) (stored (whole S) S p.packet b.receiver d)
     good_stored d e lt win =
-        let sl = set b.receiver.slots (p.seq % S.window) p.unit in
-        let mk = mark b.receiver.marks (p.seq % S.window) in
+        let sl = set b.receiver.slots (p.packet.seq % S.window) p.packet.unit in
+        let mk = mark b.receiver.marks (p.packet.seq % S.window) in
         let marks : Marks S.window log b.receiver.nxt (end b) b.receiver.window sl mk
-        = rw e (marks_store i.marks d p.unit lt win (omega (arith, accepted_before)) (o.unit ∙ ap log e)) in
+        = rw e (marks_store i.marks d p.packet.unit lt win (omega (arith, accepted_before)) (o.unit ∙ ap log e)) in
         on_eq G d 0
-        (λ z. rw (slot_round v p.seq) (good_advance (omega arith)
+        (λ z. rw (slot_round v p.packet.seq) (good_advance (omega arith)
         (good_run S.window b.receiver.window b.receiver.nxt sl mk (omega arith) (omega arith) marks)))
-        (λ nz. quiet S v log b _ refl refl (rw (slot_round v p.seq)) (record {
+        (λ nz. quiet S v log b _ refl refl (rw (slot_round v p.packet.seq)) (record {
           past = i.past;
           setups = i.setups;
           line = i.line;
@@ -179,24 +179,24 @@ module _ (S : Setup) (v : Wide S) (log : ℕ → ℕ) where
           stored = i.stored;
         }))
 
-    good_store : {l : Place} → View S.window p.seq b.receiver.nxt l
+    good_store : {l : Place} → View S.window p.packet.seq b.receiver.nxt l
         → G (may_store (wrapped S) S q' r' (refused r') (stored (wrapped S) S q' r') l)
-        (may_store (whole S) S (bare_data p) b.receiver (refused b.receiver) (stored (whole S) S (bare_data p) b.receiver) l)
+        (may_store (whole S) S p.packet b.receiver (refused b.receiver) (stored (whole S) S p.packet b.receiver) l)
     good_store back = stays S v log i 10 (omega arith)
     good_store (fore d e lt) =
         on_le G b.receiver.window d refl
         (λ beyond. absurd (omega (arith, accepted_before, i.edges.top b.sender.una)))
-        (λ win. on_bool G (ap (marked b.receiver.marks) (slot_round v p.seq))
+        (λ win. on_bool G (ap (marked b.receiver.marks) (slot_round v p.packet.seq))
         (λ _. stays S v log i 12 (omega arith))
         (λ _. good_stored d e lt win))
 
-    good_arriving : G (arriving (wrapped S) S q' r') (arriving (whole S) S (bare_data p) b.receiver)
+    good_arriving : G (arriving (wrapped S) S q' r') (arriving (whole S) S p.packet b.receiver)
     good_arriving =
         on_bool G (passed_agree S v.clocks o.sent i.r_recent)
-        (λ pass. rw (place_agree (NS S) S.window p.seq b.receiver.nxt (omega (arith, v.seqs))
+        (λ pass. rw (place_agree (NS S) S.window p.packet.seq b.receiver.nxt (omega (arith, v.seqs))
         (omega (arith, accepted_before, i.edges.top b.sender.una))
         (omega (arith, v.seqs, distance i.line.fall S o.sent i.r_recent pass)))
-        (good_store (view S.window p.seq b.receiver.nxt)))
+        (good_store (view S.window p.packet.seq b.receiver.nxt)))
         (λ _. stays S v log i 9 (omega arith))
 
   pub good_data : (j n : ℕ) (b : Bench) → Inv S log b

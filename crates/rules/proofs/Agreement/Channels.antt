@@ -12,11 +12,11 @@ use lib.ListN.{length, drop, replicate, length-map}
 use lib.Seq.{drop-append_seam}
 use borrow.Author.Tests.{le-leb}
 use Rattle.rules.specs.declared.Setup.{Setup}
-use Rattle.rules.specs.declared.DataChannel.{DataChannel}
-use Rattle.rules.specs.declared.AckChannel.{AckChannel}
+use Rattle.rules.specs.Parts.{DataChannel}
+use Rattle.rules.specs.Parts.{AckChannel}
 use Rattle.rules.specs.Numbers.{NS, NC}
 use Rattle.rules.specs.Rows.{row, remove, aged}
-use Rattle.rules.specs.Parts.{Channel, live, data_channel, ack_channel, new_data, new_ack, no_data, no_ack}
+use Rattle.rules.specs.Parts.{Kind, live, data_channel, ack_channel, new, no_data, no_ack}
 use Rattle.rules.specs.Fit.{FitChannel}
 use Rattle.rules.specs.Malformed.{every, formed_channel}
 use Rattle.rules.specs.Events.{Out, refused, done, may_find, may_add, packet_at, adding, removed, dropping, copying, ticked_channel}
@@ -43,7 +43,7 @@ pub record Alike {X : Type 0} (W : X → X) (P : X → Type 0) (w z : Out X) : T
   pub proper : Proper z.answer
 
 -- ---- a channel whose setup is found by `at`, whose packets are shown by f, and which is itself shown by W
-pub record Shows {H P C : Type 0} (K : Channel H P C) (at : C → Setup) (f : P → P) (W : C → C) : Type 0 where
+pub record Shows {H P C : Type 0} (K : Kind H P C) (at : C → Setup) (f : P → P) (W : C → C) : Type 0 where
   pub setup_fill : (c : C) (l : List P) → at (K.fill c l) ≡ at c
   pub count_fill : (c : C) (l : List P) → K.count (K.fill c l) ≡ length l
   pub packets_fill : (c : C) (l : List P) → K.packets (K.fill c l) ≡ row (K.new K.nothing) l
@@ -54,10 +54,10 @@ pub record Shows {H P C : Type 0} (K : Channel H P C) (at : C → Setup) (f : P 
   pub age : (p : P) → K.age (f p) ≡ K.age p
   pub older : (p : P) → K.older (f p) ≡ f (K.older p)
 
-no_data_shown : (S : Setup) → wrap_data S (new_data no_data) ≡ new_data no_data
+no_data_shown : (S : Setup) → wrap_data S (new no_data) ≡ new no_data
 no_data_shown S = rw (zero-mod (NS S), zero-mod (NC S))
 
-no_ack_shown : (S : Setup) → wrap_ack S (new_ack no_ack) ≡ new_ack no_ack
+no_ack_shown : (S : Setup) → wrap_ack S (new no_ack) ≡ new no_ack
 no_ack_shown S = rw (zero-mod (NS S), zero-mod (NC S))
 
 abbrev pub of_datas : DataChannel → Setup
@@ -73,7 +73,7 @@ shows_datas S = record {
   packets_fill = λ c l. refl;
   count = λ c. refl;
   packets = λ c. refl;
-  fill = λ c l. rw (length-map l (wrap_data S), map_row (wrap_data S) (new_data no_data) (new_data no_data) (no_data_shown S) l);
+  fill = λ c l. rw (length-map l (wrap_data S), map_row (wrap_data S) (new no_data) (new no_data) (no_data_shown S) l);
   nothing = no_data_shown S;
   age = λ p. refl;
   older = λ p. refl;
@@ -86,23 +86,23 @@ shows_acks S = record {
   packets_fill = λ c l. refl;
   count = λ c. refl;
   packets = λ c. refl;
-  fill = λ c l. rw (length-map l (wrap_ack S), map_row (wrap_ack S) (new_ack no_ack) (new_ack no_ack) (no_ack_shown S) l);
+  fill = λ c l. rw (length-map l (wrap_ack S), map_row (wrap_ack S) (new no_ack) (new no_ack) (no_ack_shown S) l);
   nothing = no_ack_shown S;
   age = λ p. refl;
   older = λ p. refl;
 }
 
 -- ---- a channel under the setup S, of whose packets each has a fact
-pub record Holds {H P C : Type 0} (K : Channel H P C) (at : C → Setup) (S : Setup) (F : P → Type 0) (c : C) : Type 0 where
+pub record Holds {H P C : Type 0} (K : Kind H P C) (at : C → Setup) (S : Setup) (F : P → Type 0) (c : C) : Type 0 where
   pub setup : at c ≡ S
   pub fit : FitChannel K c
   pub all : All F (live K c)
 
-pub holds_imply : {H P C : Type 0} {K : Channel H P C} {at : C → Setup} {S : Setup} {F G : P → Type 0} {c : C}
+pub holds_imply : {H P C : Type 0} {K : Kind H P C} {at : C → Setup} {S : Setup} {F G : P → Type 0} {c : C}
     → ((p : P) → F p → G p) → Holds K at S F c → Holds K at S G c
 holds_imply f h = record { setup = h.setup; fit = h.fit; all = all_imply f h.all }
 
-module _ {H P C : Type 0} {K : Channel H P C} {at : C → Setup} {f : P → P} {W : C → C} (k : Shows K at f W) where
+module _ {H P C : Type 0} {K : Kind H P C} {at : C → Setup} {f : P → P} {W : C → C} (k : Shows K at f W) where
   pub live_fill : (c : C) (l : List P) → live K (K.fill c l) ≡ l
   live_fill c l = rw (k.count_fill c l, k.packets_fill c l) (live_row (K.new K.nothing) l)
 
@@ -219,7 +219,7 @@ every_rest : {A : Type 0} (f : A → Bool) (z : A) → f z ≡ true → (l : Lis
 unfolding row
 every_rest f z e l n q = rw (q, drop-append_seam l (replicate (32 - length l) z)) (every_replicate f z e (32 - length l))
 
-pub formed_of_fit : {H P C : Type 0} (K : Channel H P C) → K.is_nothing (K.new K.nothing) ≡ true
+pub formed_of_fit : {H P C : Type 0} (K : Kind H P C) → K.is_nothing (K.new K.nothing) ≡ true
     → (right : P → Bool) {c : C} → FitChannel K c → All (λ (p : P). right p ≡ true) (live K c) → formed_channel K right c ≡ true
 unfolding formed_channel
 formed_of_fit {P = P} K z right {c} h a =

@@ -12,14 +12,14 @@ use Rattle.rules.specs.declared.Setup.{Setup}
 use Rattle.rules.specs.declared.Recent.{Recent}
 use Rattle.rules.specs.declared.Sender.{Sender}
 use Rattle.rules.specs.declared.Receiver.{Receiver}
-use Rattle.rules.specs.declared.DataPacket.{DataPacket}
-use Rattle.rules.specs.declared.AckPacket.{AckPacket}
+use Rattle.rules.specs.Parts.{DataPacket}
+use Rattle.rules.specs.Parts.{AckPacket}
 use Rattle.rules.specs.declared.Bench.{Bench}
 use Rattle.rules.specs.Numbers.{NS, NC, Arith, wrapped, whole}
 use Rattle.rules.specs.Setups.{◌also◌, admitted, same_setup}
 use Rattle.rules.specs.Marks.{marked}
 use Rattle.rules.specs.Parts.{is_no_data, is_no_ack, live, data_channel, ack_channel}
-use Rattle.rules.specs.Malformed.{all_from, formed_recent, formed_sender, formed_receiver, right_data, right_ack, formed_data, formed_ack, formed_bench, malformed_bench}
+use Rattle.rules.specs.Malformed.{all_from, formed_recent, formed_sender, formed_receiver, right_data, right_ack, formed_aged, formed_data, formed_ack, formed_bench, malformed_bench}
 use Rattle.rules.specs.Events.{Event, act}
 use Rattle.rules.specs.Operations.{step}
 use Rattle.rules.specs.Agreement.{wrap_recent, wrap_data, wrap_ack, wrap_sender, wrap_receiver, wrap_datas, wrap_acks, wrap}
@@ -97,25 +97,25 @@ module _ (S : Setup) (adm : admitted S ≡ true) (v : Wide S) where
 
   module _ {log : ℕ → ℕ} {b : Bench} (i : Inv S log b) where
     datas_whole : All (λ (p : DataPacket). formed_data (whole S) S p ≡ true) (live data_channel b.datas)
-    unfolding formed_data right_data
+    unfolding formed_aged right_data
     datas_whole = all_imply (λ p o. refl and refl and le-leb _ _ o.sent.young) i.datas.all
 
     acks_whole : All (λ (p : AckPacket). formed_ack (whole S) S p ≡ true) (live ack_channel b.acks)
-    unfolding formed_ack right_ack
+    unfolding formed_aged right_ack
     acks_whole = all_imply (λ p o. refl and le-leb _ _ o.most and refl and le-leb _ _ o.sent.young) i.acks.all
 
     datas_wrapped : All (λ (p : DataPacket). formed_data (wrapped S) S p ≡ true) (live data_channel (wrap_datas S b.datas))
-    unfolding formed_data right_data
+    unfolding formed_aged right_data
     datas_wrapped =
         rw (live_shown (shows_datas S) b.datas)
-        (all_map (wrap_data S) (λ p o. in_seq p.seq and in_clk p.stamp and le-leb _ _ o.sent.young) i.datas.all)
+        (all_map (wrap_data S) (λ p o. in_seq p.packet.seq and in_clk p.packet.stamp and le-leb _ _ o.sent.young) i.datas.all)
 
     acks_wrapped : All (λ (p : AckPacket). formed_ack (wrapped S) S p ≡ true) (live ack_channel (wrap_acks S b.acks))
-    unfolding formed_ack right_ack
+    unfolding formed_aged right_ack
     acks_wrapped =
         rw (live_shown (shows_acks S) b.acks)
         (all_map (wrap_ack S)
-        (λ p o. in_seq p.ack and le-leb _ _ o.most and in_clk p.stamp and le-leb _ _ o.sent.young) i.acks.all)
+        (λ p o. in_seq p.packet.ack and le-leb _ _ o.most and in_clk p.packet.stamp and le-leb _ _ o.sent.young) i.acks.all)
 
     bench_whole : formed_bench whole S b ≡ true
     unfolding formed_bench is_no_data is_no_ack ◌also◌

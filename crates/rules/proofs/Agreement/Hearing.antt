@@ -9,10 +9,10 @@ use lib.ListN.{set}
 use Rattle.rules.specs.declared.Setup.{Setup}
 use Rattle.rules.specs.declared.Sender.{Sender}
 use Rattle.rules.specs.declared.BareAck.{BareAck}
-use Rattle.rules.specs.declared.AckPacket.{AckPacket}
+use Rattle.rules.specs.Parts.{AckPacket}
 use Rattle.rules.specs.declared.Bench.{Bench}
 use Rattle.rules.specs.Numbers.{wrapped, whole, NS, Place}
-use Rattle.rules.specs.Parts.{ack_channel, bare_ack}
+use Rattle.rules.specs.Parts.{ack_channel}
 use Rattle.rules.specs.Events.{Out, refused, done, freed, may_free, heard, hearing, packet_at, without_ack, bench_hear}
 use Rattle.rules.specs.Agreement.{wrap_sender, wrap_ack, wrap}
 use Rattle.rules.proofs.Wrap.{place_agree, View, back, fore, view}
@@ -43,23 +43,23 @@ module _ (S : Setup) (v : Wide S) (log : ℕ → ℕ) where
     s' = wrap_sender S b.sender
 
     abbrev q' : BareAck
-    q' = bare_ack (wrap_ack S p)
+    q' = (wrap_ack S p).packet
 
     abbrev G : Out Sender → Out Sender → Type 0
     G = GoodSender S log b nothing
 
-    up_to_nxt : p.ack ≤ b.receiver.nxt
+    up_to_nxt : p.packet.ack ≤ b.receiver.nxt
     up_to_nxt = omega (arith, sent_high (line_g i.line) f.sent)
 
-    good_heard : (o : ℕ) → p.ack ≡ b.sender.una + o → o ≤ b.sender.outstanding
-        → G (done (heard (wrapped S) S q' s' o)) (done (heard (whole S) S (bare_ack p) b.sender o))
+    good_heard : (o : ℕ) → p.packet.ack ≡ b.sender.una + o → o ≤ b.sender.outstanding
+        → G (done (heard (wrapped S) S q' s' o)) (done (heard (whole S) S p.packet b.sender o))
     good_heard o e le =
         on_eq (λ (w z : Sender). G (done w) (done z)) o 0
         (λ z. quiet S v log b _ refl refl refl (record {
           past = i.past;
           setups = i.setups;
           line = i.line;
-          nums = let here : p.ack ≡ b.sender.una = omega arith in omega (arith, f.most, f.edge, ap i.past.E here);
+          nums = let here : p.packet.ack ≡ b.sender.una = omega arith in omega (arith, f.most, f.edge, ap i.past.E here);
           edges = i.edges;
           datas = i.datas;
           acks = i.acks;
@@ -89,20 +89,20 @@ module _ (S : Setup) (v : Wide S) (log : ℕ → ℕ) where
           stored = stored_freed o b.sender.una (omega arith) (rw rest at i.stored);
         }))
 
-    good_free : {l : Place} → View (suc S.window) p.ack b.sender.una l
+    good_free : {l : Place} → View (suc S.window) p.packet.ack b.sender.una l
         → G (may_free (wrapped S) S s' (refused s') (λ o. done (heard (wrapped S) S q' s' o)) l)
-        (may_free (whole S) S b.sender (refused b.sender) (λ o. done (heard (whole S) S (bare_ack p) b.sender o)) l)
+        (may_free (whole S) S b.sender (refused b.sender) (λ o. done (heard (whole S) S p.packet b.sender o)) l)
     good_free back = stays S v log i 10 (omega arith)
     good_free (fore o e lt) =
         on_le G o b.sender.outstanding refl (λ le. good_heard o e le) (λ beyond. absurd (omega (arith, up_to_nxt)))
 
-    good_hearing : G (hearing (wrapped S) S q' s') (hearing (whole S) S (bare_ack p) b.sender)
+    good_hearing : G (hearing (wrapped S) S q' s') (hearing (whole S) S p.packet b.sender)
     good_hearing =
         on_bool G (passed_agree S v.clocks f.sent i.s_recent)
-        (λ pass. rw (place_agree (NS S) (suc S.window) p.ack b.sender.una (omega (arith, v.seqs, v.fit.some))
+        (λ pass. rw (place_agree (NS S) (suc S.window) p.packet.ack b.sender.una (omega (arith, v.seqs, v.fit.some))
         (omega (arith, up_to_nxt))
         (omega (arith, v.seqs, v.fit.some, distance (line_g i.line) S f.sent i.s_recent pass)))
-        (good_free (view (suc S.window) p.ack b.sender.una)))
+        (good_free (view (suc S.window) p.packet.ack b.sender.una)))
         (λ _. stays S v log i 9 (omega arith))
 
   pub good_hear : (j : ℕ) (b : Bench) → Inv S log b

@@ -10,10 +10,10 @@ use lib.ListN.{length}
 use Rattle.rules.specs.declared.Setup.{Setup}
 use Rattle.rules.specs.declared.Sender.{Sender}
 use Rattle.rules.specs.declared.Receiver.{Receiver}
-use Rattle.rules.specs.declared.DataPacket.{DataPacket}
-use Rattle.rules.specs.declared.AckPacket.{AckPacket}
-use Rattle.rules.specs.declared.DataChannel.{DataChannel}
-use Rattle.rules.specs.declared.AckChannel.{AckChannel}
+use Rattle.rules.specs.Parts.{DataPacket}
+use Rattle.rules.specs.Parts.{AckPacket}
+use Rattle.rules.specs.Parts.{DataChannel}
+use Rattle.rules.specs.Parts.{AckChannel}
 use Rattle.rules.specs.declared.Bench.{Bench}
 use Rattle.rules.specs.Numbers.{NS, NC}
 use Rattle.rules.specs.Marks.{marked}
@@ -85,15 +85,15 @@ pub record Edges (E : ℕ → ℕ) (nxt window : ℕ) : Type 0 where
 -- ---- the packets; T is the writer's clock
 -- a data packet: the unit of its number; the number had been accepted, and was not a window behind
 pub record DataFacts (S : Setup) (log : ℕ → ℕ) (h : ℕ → ℕ) (T : ℕ) (p : DataPacket) : Type 0 where
-  pub unit : p.unit ≡ log p.seq
-  pub sent : Sent S.life S.window T h p.seq (suc p.seq) p.stamp p.age
+  pub unit : p.packet.unit ≡ log p.packet.seq
+  pub sent : Sent S.life S.window T h p.packet.seq (suc p.packet.seq) p.packet.stamp p.age
 
 -- an acknowledgement: nxt of its tick, with the right edge that the receiver then had
 pub record AckFacts (S : Setup) (g E : ℕ → ℕ) (T : ℕ) (p : AckPacket) : Type 0 where
-  pub sent : Sent S.life 0 T g p.ack p.ack p.stamp p.age
-  pub most : p.window ≤ S.window
-  pub edge : p.ack + p.window ≤ E p.ack
-  pub past : (k : ℕ) → k < p.ack → E k ≤ p.ack + p.window
+  pub sent : Sent S.life 0 T g p.packet.ack p.packet.ack p.packet.stamp p.age
+  pub most : p.packet.window ≤ S.window
+  pub edge : p.packet.ack + p.packet.window ≤ E p.packet.ack
+  pub past : (k : ℕ) → k < p.packet.ack → E k ≤ p.packet.ack + p.packet.window
 
 -- the channels, full of such packets
 abbrev pub DatasHold : Setup → (ℕ → ℕ) → (ℕ → ℕ) → ℕ → DataChannel → Type 0

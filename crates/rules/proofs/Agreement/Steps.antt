@@ -10,8 +10,8 @@ use borrow.Author.Tests.{le-leb, lt-leb}
 use Rattle.rules.specs.declared.Setup.{Setup}
 use Rattle.rules.specs.declared.Recent.{Recent}
 use Rattle.rules.specs.declared.Sender.{Sender}
-use Rattle.rules.specs.declared.DataChannel.{DataChannel}
-use Rattle.rules.specs.declared.AckChannel.{AckChannel}
+use Rattle.rules.specs.Parts.{DataChannel}
+use Rattle.rules.specs.Parts.{AckChannel}
 use Rattle.rules.specs.declared.Bench.{Bench}
 use Rattle.rules.specs.Numbers.{wrapped, whole, NS, NC}
 use Rattle.rules.specs.Parts.{ack_channel}
@@ -227,7 +227,7 @@ module _ (S : Setup) (v : Wide S) (log : ℕ → ℕ) where
         acks = holds_imply (λ p o. record {
           sent = o.sent;
           most = o.most;
-          edge = omega (arith, o.edge, up p.ack);
+          edge = omega (arith, o.edge, up p.packet.ack);
           past = λ k lt.
               let before : k < n = omega (arith, sent_high (line_g i.line) o.sent) in
               omega (arith, o.past k lt, further_past i.past.E n e k before);

@@ -4,14 +4,15 @@ use Rattle.rules.specs.Setups.{◌also◌}
 use Rattle.rules.specs.Malformed.{malformed_sender}
 use Rattle.rules.proofs.Fits.{limits, fit_setup}
 use Rattle.sender.proofs.malformed.Goals as goal
-
-pub returns-then-not-admitted : goal.returns-then-not-admitted
-unfolding malformed_sender ◌also◌
-returns-then-not-admitted c = rw (← c.admitted.ensures, c.if-not-admitted.true)
+use Rattle.sender.proofs.malformed.Goals.{then-admitted, else-admitted}
 
 pub formed-requires : goal.formed-requires
-formed-requires c = fit_setup (limits _ (sym c.admitted.ensures ∙ c.if-not-admitted.false))
+formed-requires c = fit_setup (limits _ (sym c.admitted.ensures ∙ c.if-admitted.true))
 
 pub returns : goal.returns
 unfolding malformed_sender ◌also◌
-returns c = rw (← c.formed.ensures, ← c.admitted.ensures, c.if-not-admitted.false)
+returns c =
+    elim c.if-admitted.branch [
+      | then-admitted w ↦ rw (← c.admitted.ensures, w.if-admitted.true, ← w.formed.ensures, w.result-is)
+      | else-admitted w ↦ rw (← c.admitted.ensures, w.result-is, w.if-admitted.false)
+    ]

@@ -1,31 +1,17 @@
--- `next_line` meets its contract: each return is one case of the step.
-use Rattle.std.proofs.Common.{ap, sym, ◌∙◌}
-use Rattle.rules.specs.declared.BenchDone.{BenchDone}
-use Rattle.listing.proofs.Steps.{next_cut, next_bad, next_good, stepped_last, stepped_on}
+-- `next_line` meets its contract where the line is an event: the step goes on.
+use Rattle.std.proofs.Common.{ℕ, List, replicate, refl, sym, rules}
+use Rattle.std.proofs.lemmas.Result.{MatchResult-weaker}
+use Rattle.listing.proofs.Steps.{stepped_on}
+use Rattle.listing.proofs.Units.{taken, seen}
 use Rattle.listing.proofs.inner.next_line.Goals as goal
-
-pub returns-then-e-src : goal.returns-then-e-src
-returns-then-e-src c =
-    let a = c.args in
-    stepped_last a.src.now a.run _ _ _ _ (next_cut a.src.now a.run (sym c.index-e.ensures.is ∙ c.if-e-src.true)) c.put_bad-n.ensures
-
-pub returns-in_default : goal.returns-in_default
-returns-in_default c =
-    let a = c.args in
-    let x = c.index-e.ensures.is in
-    let l = sym c.read_event-l.ensures ∙ c.in_default.is in
-    stepped_last a.src.now a.run _ _ _ _
-    (next_bad a.src.now a.run (λ f. c.if-e-src.false (x ∙ f)) (rw (sym x) l))
-    c.put_bad-n-in_default.ensures
 
 pub returns : goal.returns
 returns c =
-    let a = c.args in
-    let x = c.index-e.ensures.is in
-    let l = sym c.read_event-l.ensures ∙ c.in-Good.is in
-    let o = c.apply-o.ensures in
-    let n = c.put_event-n.ensures in
-    let ev = c.in-Good.ev in
-    stepped_on a.src.now a.run _ _ ev _ _ _
-    (next_good a.src.now a.run (λ f. c.if-e-src.false (x ∙ f)) ev (rw x at l)) x
-    (ap (λ (r : BenchDone). r.bench) o.is) (rw (ap (λ (r : BenchDone). r.answer) o.is, o.units) at n) c.requires.ready
+    let i = c.in-Some.ensures in
+    let r = c.apply-given in
+    let zeros : List ℕ = replicate 64 0 in
+    let t = taken r.result c.unwrap_or_else-count.result (MatchResult-weaker r.result c.unwrap_or_else-count.ensures (λ x e. e) (λ e h. search rules)) in
+    let s = seen c.args.run.bench c.in-Some-read_event.event zeros r.new.row r.result refl r.ensures.gives r.ensures.lent in
+    let line = rw (c.clear.ensures, c.from.ensures, c.answer-answer.ensures, s.0, t, s.2) at c.push_event.ensures in
+    rw (c.then_some.ensures, t, s.1)
+    (stepped_on _ _ _ i.0 i.1 _ _ (sym c.in-Some-read_event.ensures) line c.requires)

@@ -1,31 +1,28 @@
--- The first b from `from` on is the first from i on, as no byte that was passed is one.
-use Rattle.std.proofs.Common.{arith, sym, ◌∙◌}
-use Rattle.reader.proofs.Cuts.{index_end, index_found, index_passed}
+-- What `position` finds is the place of the first b, counted from `from`.
+use Rattle.std.proofs.Common.{rules, tests, nat_eq}
+use Rattle.std.proofs.lemmas.Iterator.{YieldsList-from_slice}
+use Rattle.std.proofs.lemmas.Iterator.Search.{position_from_yields_List}
+use Rattle.reader.proofs.Cuts.{rest, first_none, first_some}
 use Rattle.reader.proofs.inner.index.Goals as goal
 
-pub returns-then-s-i : goal.returns-then-s-i
-returns-then-s-i c =
-    let l = c.loop-i in
-    record {
-      is = sym (l.invariant.same ∙ index_found c.args.b c.args.s.now l.i (omega arith) c.if-s-i.true);
-      after = omega arith;
-      within = omega arith;
-    }
-
-pub loop-i-preserved : goal.loop-i-preserved
-loop-i-preserved c =
-    let l = c.loop-i in
-    record {
-      begun = omega arith;
-      within = omega arith;
-      same = l.invariant.same ∙ index_passed c.args.b c.args.s.now l.i (omega arith) c.if-s-i.false;
-    }
+pub returns-in_err-k : goal.returns-in_err-k
+returns-in_err-k c =
+    let s = c.args.s.now in
+    let i = c.args.from in
+    let p = c.position in
+    let e =
+    position_from_yields_List (λ x. nat_eq x c.args.b) _ _ p.result p.ensures.ran
+    (YieldsList-from_slice (rest s i) cc)
+    (λ x b q k. search (rules, tests)) in
+    rw c.from_residual.ensures (first_none c.args.b s i c.requires p.result e c.in_err-k.was)
 
 pub returns : goal.returns
 returns c =
-    let l = c.loop-i in
-    record {
-      is = sym (l.invariant.same ∙ index_end c.args.b c.args.s.now l.i (omega arith));
-      after = omega arith;
-      within = omega arith;
-    }
+    let s = c.args.s.now in
+    let i = c.args.from in
+    let p = c.position in
+    let e =
+    position_from_yields_List (λ x. nat_eq x c.args.b) _ _ p.result p.ensures.ran
+    (YieldsList-from_slice (rest s i) cc)
+    (λ x b q k. search (rules, tests)) in
+    first_some c.args.b s i c.requires p.result e c.in_ok-k.k c.in_ok-k.was

@@ -5,4 +5,4 @@ use Rattle.receiver.proofs.inner.formed.Goals as goal
 
 pub returns : goal.returns
 unfolding formed_receiver ◌also◌
-returns c = rw (c.in_range.ensures, c.in_range-2.ensures, c.formed.ensures, c.right_ahead.ensures, c.unused_above.ensures)
+returns c = rw (c.contains.ensures, c.contains-2.ensures, c.new.ensures, c.new-2.ensures, c.formed.ensures, c.right_ahead.ensures, c.unused_above.ensures)

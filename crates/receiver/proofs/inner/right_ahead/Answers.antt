@@ -1,15 +1,14 @@
--- `right_ahead` meets its contract: the slots passed are right, so those that are left decide.
-use Rattle.std.proofs.Common.{sym, ◌∙◌, arith}
-use Rattle.rules.proofs.Loops.{all_more, all_stop, all_end}
+-- `right_ahead` meets its contract: each slot of the ring is tested.
+use Rattle.std.proofs.Common.{refl, rules, ◌∙◌, tests, arith}
+use Rattle.std.proofs.lemmas.Iterator.{YieldsList-from_range}
+use Rattle.std.proofs.lemmas.Iterator.Search.{all_from_yields_List}
+use Rattle.rules.specs.Malformed.{right_ahead}
+use Rattle.rules.proofs.Loops.{all_range}
 use Rattle.receiver.proofs.inner.right_ahead.Goals as goal
 
-pub returns-then-not-right_at : goal.returns-then-not-right_at
-returns-then-not-right_at c =
-    sym (c.loop-d.invariant.1 ∙ all_stop _ _ _ c.loop-d-test.true (sym c.right_at.ensures ∙ c.if-not-right_at.true))
-
-pub loop-d-preserved : goal.loop-d-preserved
-loop-d-preserved c =
-    (omega arith, c.loop-d.invariant.1 ∙ all_more _ _ _ c.loop-d-test.true (sym c.right_at.ensures ∙ c.if-not-right_at.false))
-
 pub returns : goal.returns
-returns c = sym (c.loop-d.invariant.1 ∙ all_end _ _ _ c.loop-d-test.false)
+returns c =
+    let r = c.args.r.now in
+    let f = right_ahead r.setup.window r.slots r.marks r.nxt r.window in
+    all_from_yields_List f _ _ _ c.all.ensures.ran (YieldsList-from_range 0 r.setup.window r.setup.window refl (omega arith)) (λ x b q k. search (rules, tests))
+    ∙ all_range f 0 r.setup.window

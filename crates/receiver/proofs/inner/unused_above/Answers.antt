@@ -1,15 +1,14 @@
--- `unused_above` meets its contract: the slots passed are not in use, so those that are left decide.
-use Rattle.std.proofs.Common.{sym, ◌∙◌, arith}
-use Rattle.rules.proofs.Loops.{all_more, all_stop, all_end}
+-- `unused_above` meets its contract: each slot from RW up is tested.
+use Rattle.std.proofs.Common.{◌-◌, refl, rules, ◌∙◌, tests}
+use Rattle.std.proofs.lemmas.Iterator.{YieldsList-from_range}
+use Rattle.std.proofs.lemmas.Iterator.Search.{all_from_yields_List}
+use Rattle.rules.specs.Malformed.{unused}
+use Rattle.rules.proofs.Loops.{all_range}
 use Rattle.receiver.proofs.inner.unused_above.Goals as goal
 
-pub returns-then-not-unused_at : goal.returns-then-not-unused_at
-returns-then-not-unused_at c =
-    sym (c.loop-i.invariant.1 ∙ all_stop _ _ _ c.loop-i-test.true (sym c.unused_at.ensures ∙ c.if-not-unused_at.true))
-
-pub loop-i-preserved : goal.loop-i-preserved
-loop-i-preserved c =
-    (omega arith, c.loop-i.invariant.1 ∙ all_more _ _ _ c.loop-i-test.true (sym c.unused_at.ensures ∙ c.if-not-unused_at.false))
-
 pub returns : goal.returns
-returns c = sym (c.loop-i.invariant.1 ∙ all_end _ _ _ c.loop-i-test.false)
+returns c =
+    let r = c.args.r.now in
+    let f = unused r.slots r.marks in
+    all_from_yields_List f _ _ _ c.all.ensures.ran (YieldsList-from_range r.setup.window 64 (64 - r.setup.window) refl refl) (λ x b q k. search (rules, tests))
+    ∙ all_range f r.setup.window (64 - r.setup.window)

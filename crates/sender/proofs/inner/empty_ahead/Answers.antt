@@ -5,16 +5,19 @@ use Rattle.rules.specs.Malformed.{empty_ahead}
 use Rattle.rules.proofs.Loops.{all_more, all_stop, all_end}
 use Rattle.sender.proofs.inner.empty_ahead.Goals as goal
 
-pub returns-then-slots-i-ne0 : goal.returns-then-slots-i-ne0
-returns-then-slots-i-ne0 c =
-    sym (c.loop-d.invariant ∙ all_stop (empty_ahead c.args.window c.args.slots c.args.q) c.args.window c.loop-d.d (omega arith)
-    (rw (← c.slot_ahead-i.ensures.0) (ne_eqb _ 0 c.if-slots-i-ne0.true)))
+pub returns-then-slots-slot_ahead-ne0 : goal.returns-then-slots-slot_ahead-ne0
+returns-then-slots-slot_ahead-ne0 c =
+    let a = c.args in
+    sym (c.loop-d.invariant ∙ all_stop (empty_ahead a.ring.window a.slots.now a.q) a.ring.window c.loop-d.d (omega arith)
+    (rw (← c.slot_ahead.ensures.0) (ne_eqb _ 0 c.if-slots-slot_ahead-ne0.true)))
 
 pub loop-d-preserved : goal.loop-d-preserved
 loop-d-preserved c =
-    c.loop-d.invariant ∙ all_more (empty_ahead c.args.window c.args.slots c.args.q) c.args.window c.loop-d.d (omega arith)
-    (rw (← c.slot_ahead-i.ensures.0) (eq-eqb _ 0 c.if-slots-i-ne0.false))
+    let a = c.args in
+    c.loop-d.invariant ∙ all_more (empty_ahead a.ring.window a.slots.now a.q) a.ring.window c.loop-d.d (omega arith)
+    (rw (← c.slot_ahead.ensures.0) (eq-eqb _ 0 c.if-slots-slot_ahead-ne0.false))
 
 pub returns : goal.returns
 returns c =
-    sym (c.loop-d.invariant ∙ all_end (empty_ahead c.args.window c.args.slots c.args.q) c.args.window c.loop-d.d (omega arith))
+    let a = c.args in
+    sym (c.loop-d.invariant ∙ all_end (empty_ahead a.ring.window a.slots.now a.q) a.ring.window c.loop-d.d (omega arith))

@@ -1,12 +1,9 @@
--- The loop's invariant: the numbers from d on give the whole answer. The measure is how many are left.
+-- The loop's invariant: the numbers from d on give the whole answer.
 use Rattle.std.proofs.Common.{◌≡◌, ◌-◌}
 use Rattle.rules.specs.Malformed.{all_from, empty_ahead}
 use Rattle.sender.proofs.inner.empty_ahead.Given as goal
 
 abbrev pub invariant-loop-d : goal.invariant-loop-d
 invariant-loop-d l =
-    all_from (empty_ahead l.window l.slots l.q) l.from (l.window - l.from)
-    ≡ all_from (empty_ahead l.window l.slots l.q) l.d (l.window - l.d)
-
-abbrev pub decreases-loop-d : goal.decreases-loop-d
-decreases-loop-d l = l.window - l.d
+    let ahead = empty_ahead l.ring.window l.slots l.q in
+    all_from ahead l.from (l.ring.window - l.from) ≡ all_from ahead l.d (l.ring.window - l.d)

@@ -5,4 +5,14 @@ use Rattle.sender.proofs.inner.formed.Goals as goal
 
 pub returns : goal.returns
 unfolding formed_sender ◌also◌
-returns c = rw (c.in_range.ensures, c.in_range-2.ensures, c.formed.ensures, c.empty_ahead.ensures, c.empty_above.ensures)
+returns c =
+    rw (
+      c.contains.ensures,
+      c.contains-2.ensures,
+      c.formed.ensures,
+      c.empty_ahead.ensures,
+      c.empty_above.ensures,
+      c.new.ensures,
+      c.new-2.ensures,
+      c.new-ring.ensures,
+    )

@@ -1,35 +1,19 @@
--- `judge` meets its contract: values that fit their fields are the setup that `fresh` judges; others are refused with 1.
-use Rattle.std.proofs.Common.{sym, ◌∙◌}
+-- `judge` meets its contract: values that fit their fields are the setup that `fresh` judges; others are refused.
+use Rattle.std.proofs.Common.{◌≡◌, arith, rules}
+use Rattle.std.proofs.lemmas.Result.{err_from_is_err_and, MatchResult-weaker}
+use Rattle.rules.specs.declared.Refusal.TheVariants.{NotAdmitted}
 use Rattle.listing.specs.Listing.{setup_of}
-use Rattle.listing.proofs.Setups.{fields_fit, opened_fits, opened_large}
+use Rattle.listing.proofs.Setups.{too_large, judged_fresh}
 use Rattle.listing.proofs.inner.begin.judge.Goals as goal
 
-pub overflow_cast-v : goal.overflow_cast-v
-overflow_cast-v c = record { fits = (fields_fit (setup_of c.args.v) (sym c.fit.ensures ∙ c.if-fit.true)).window }
-
-pub overflow_cast-v-then-fit : goal.overflow_cast-v-then-fit
-overflow_cast-v-then-fit c = record { fits = (fields_fit (setup_of c.args.v) (sym c.fit.ensures ∙ c.if-fit.true)).seqbits }
-
-pub overflow_cast-v-then-fit-2 : goal.overflow_cast-v-then-fit-2
-overflow_cast-v-then-fit-2 c = record { fits = (fields_fit (setup_of c.args.v) (sym c.fit.ensures ∙ c.if-fit.true)).clockbits }
-
-pub overflow_cast-v-then-fit-3 : goal.overflow_cast-v-then-fit-3
-overflow_cast-v-then-fit-3 c = record { fits = (fields_fit (setup_of c.args.v) (sym c.fit.ensures ∙ c.if-fit.true)).life }
-
-pub overflow_cast-v-then-fit-4 : goal.overflow_cast-v-then-fit-4
-overflow_cast-v-then-fit-4 c = record { fits = (fields_fit (setup_of c.args.v) (sym c.fit.ensures ∙ c.if-fit.true)).rate }
-
-pub overflow_cast-v-then-fit-5 : goal.overflow_cast-v-then-fit-5
-overflow_cast-v-then-fit-5 c = record { fits = (fields_fit (setup_of c.args.v) (sym c.fit.ensures ∙ c.if-fit.true)).seq }
-
-pub overflow_cast-v-then-fit-6 : goal.overflow_cast-v-then-fit-6
-overflow_cast-v-then-fit-6 c = record { fits = (fields_fit (setup_of c.args.v) (sym c.fit.ensures ∙ c.if-fit.true)).sclock }
-
-pub overflow_cast-v-then-fit-7 : goal.overflow_cast-v-then-fit-7
-overflow_cast-v-then-fit-7 c = record { fits = (fields_fit (setup_of c.args.v) (sym c.fit.ensures ∙ c.if-fit.true)).rclock }
-
-pub returns-then-fit : goal.returns-then-fit
-returns-then-fit c = c.fresh.ensures ∙ rw (opened_fits (setup_of c.args.v) (sym c.fit.ensures ∙ c.if-fit.true))
+pub returns-in_err-setup : goal.returns-in_err-setup
+returns-in_err-setup c =
+    let p = err_from_is_err_and c.from_residual.result c.from_residual.ensures.1 in
+    let b : c.in_err-setup.field-0.0 ≡ NotAdmitted = grind arith in
+    rw (p.1, p.2, b) (too_large (setup_of c.args.v) (rw c.in_err-setup.ensures.ok_part at c.to_setup.ensures))
 
 pub returns : goal.returns
-returns c = rw (c.first.ensures, c.zero.ensures, ← opened_large (setup_of c.args.v) (sym c.fit.ensures ∙ c.if-fit.false))
+returns c =
+    judged_fresh (setup_of c.args.v) c.in_ok-setup.setup c.fresh.result c.map_err.result
+    (rw c.in_ok-setup.ensures.ok_part at c.to_setup.ensures) c.fresh.ensures
+    (MatchResult-weaker c.fresh.result c.map_err.ensures.cases (λ x e. e) (λ e h. search rules))

@@ -6,12 +6,8 @@ use Rattle.listing.proofs.inner.begin.read_lines.Given as goal
 abbrev pub invariant-loop-i : goal.invariant-loop-i
 invariant-loop-i l =
     record {
-      few : l.i ≤ 8;
       within : l.at ≤ length l.src;
       far : l.i ≤ l.at;
-      eight : length l.values ≡ 8;
-      left : open_from 8 1 0 [] l.src ≡ open_from (8 - l.i) (l.i + 1) l.at (take l.i l.values) l.src;
+      eight : length l.value-items ≡ 8;
+      left : open_from 8 1 0 [] l.src ≡ open_from (8 - l.i) (l.i + 1) l.at (take l.i l.value-items) l.src;
     }
-
-abbrev pub decreases-loop-i : goal.decreases-loop-i
-decreases-loop-i l = 8 - l.i

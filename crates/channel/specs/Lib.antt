@@ -1,0 +1,4 @@
+pub mod Pushing
+pub mod One
+pub mod OneData
+pub mod OneAck

@@ -1,7 +1,0 @@
--- `duplicate` meets its contract: a channel that is not malformed is fit for the work.
-use Rattle.std.proofs.Common.{sym, ◌∙◌, arith}
-use Rattle.rules.proofs.Channels.{sound_datas}
-use Rattle.datas.proofs.duplicate.Goals as goal
-
-pub duplicate-requires : goal.duplicate-requires
-duplicate-requires c = (sound_datas _ (omega arith) (sym c.malformed.ensures ∙ c.if-malformed.false)).1

@@ -1,7 +1,0 @@
--- `take` meets its contract: a channel that is not malformed is fit for the work.
-use Rattle.std.proofs.Common.{sym, ◌∙◌, arith}
-use Rattle.rules.proofs.Channels.{sound_datas}
-use Rattle.datas.proofs.take.Goals as goal
-
-pub take-requires : goal.take-requires
-take-requires c = (sound_datas _ (omega arith) (sym c.malformed.ensures ∙ c.if-malformed.false)).1

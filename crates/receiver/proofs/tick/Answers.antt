@@ -1,7 +1,0 @@
--- `tick` meets its contract: a receiver that is not malformed has what the work asks for.
-use Rattle.std.proofs.Common.{sym, ◌∙◌}
-use Rattle.rules.proofs.Fits.{fit_receiver}
-use Rattle.receiver.proofs.tick.Goals as goal
-
-pub tick-requires : goal.tick-requires
-tick-requires c = fit_receiver _ (sym c.malformed.ensures ∙ c.if-malformed.false)
