@@ -1,15 +1,16 @@
 -- Lines written into a row as long as they fit: a line at a time.
-use Rattle.std.specs.Prelude.{◌≡◌, ℕ, ◌+◌, ◌-◌, ◌<◌, ◌≤◌, Bool, true, false, not, nat_lt, nat_le, List, [], ◌∷◌, ◌++◌, length, Option, Some, None, is_some}
+use Rattle.std.specs.Prelude.{◌≡◌, ℕ, ◌+◌, ◌-◌, ◌<◌, ◌≤◌, Bool, true, false, not, nat_lt, nat_le, List, [], ◌∷◌, ◌++◌, length}
 use Rattle.std.proofs.Common.{refl, sym, ◌∙◌, append-nil, arith, lt-ltb, le-ltb, le-leb, ltb-true, ltb-false, length-append}
-use Rattle.std.specs.Bool.{then_some}
 use Rattle.std.proofs.lemmas.Bool.{lt-leb}
 use Rattle.writer.specs.Row.{put, Put}
 use Rattle.writer.proofs.Row.{put_then, put_nothing}
 use Rattle.listing.specs.declared.inner.Run.{Run}
+use Rattle.listing.specs.declared.inner.Step.{Step}
+use Rattle.listing.specs.declared.inner.Step.TheVariants.{More, Over}
 use Rattle.listing.specs.declared.inner.Part.{Part}
 use Rattle.listing.specs.Listing.{lines, joined, listing}
-use Rattle.listing.specs.Run.{next, first, rest, after}
-use Rattle.listing.specs.Fitting.{taken, Fill, filling, Wrote}
+use Rattle.listing.specs.Run.{step_of, next, first, rest, after, Opened}
+use Rattle.listing.specs.Fitting.{taken, Fill, filling, Filled, Wrote}
 use Rattle.listing.proofs.Steps.{rest_of, rest_step}
 use Rattle.listing.proofs.Setups.{first_lines}
 
@@ -48,41 +49,43 @@ none_more : (room : ℕ) → nat_lt room (length (joined [])) ≡ false
 unfolding joined
 none_more room = le-ltb room 0 (omega arith)
 
--- ---- where a run is left, what is filled from it on
-abbrev pub filling_of : ℕ → List ℕ → Option Run → Fill
-filling_of room s None = record { text = []; left = None }
-filling_of room s (Some run) = filling room s run
+-- ---- what is filled after a step
+abbrev pub filling_of : ℕ → List ℕ → Step → Fill
+filling_of room s (More run) = filling room s run
+filling_of room s (Over run) = record { text = []; more = false; run = run }
 
 module _ (room : ℕ) (s : List ℕ) (run : Run) (h : run.at < length s) where
-  pub fill_full : room < length (next s run).line → filling room s run ≡ record { text = []; left = Some run }
+  pub fill_full : room < length (next s run).line → filling room s run ≡ record { text = []; more = true; run = run }
   unfolding filling joined after
   fill_full l =
       let n = next s run in
-      rw (rest_step s run h, taken_full room n.line (rest_of s n.run) l, long_full room n.line (rest_of s n.run) l)
+      let ls = rest_of s (step_of n.more n.run) in
+      rw (rest_step s run h, taken_full room n.line ls l, long_full room n.line ls l)
+
+  -- what is filled after the step
+  abbrev pub Then : Bool → Fill
+  Then q = filling_of (room - length (next s run).line) s (step_of q (next s run).run)
 
   fill_by :
-      (r : Option Run) → (next s run).run ≡ r → length (next s run).line ≤ room
-      → filling room s run
-      ≡ record {
-        text = (next s run).line ++ (filling_of (room - length (next s run).line) s r).text;
-        left = (filling_of (room - length (next s run).line) s r).left;
-      }
+      (q : Bool) → (next s run).more ≡ q → length (next s run).line ≤ room
+      → filling room s run ≡ record { text = (next s run).line ++ (Then q).text; more = (Then q).more; run = (Then q).run }
   unfolding filling joined after taken
-  fill_by None e l =
+  fill_by false e l =
       let n = next s run in
       rw (rest_step s run h, e, taken_on room n.line [] l, long_on room n.line [] l, none_more (room - length n.line)) refl
-  fill_by (Some then) e l =
+  fill_by true e l =
       let n = next s run in
-      rw (rest_step s run h, e, taken_on room n.line (rest s then) l, long_on room n.line (rest s then) l, e)
+      rw (rest_step s run h, e, taken_on room n.line (rest s n.run) l, long_on room n.line (rest s n.run) l)
 
   pub fill_on :
       length (next s run).line ≤ room
       → filling room s run
       ≡ record {
-        text = (next s run).line ++ (filling_of (room - length (next s run).line) s (next s run).run).text;
-        left = (filling_of (room - length (next s run).line) s (next s run).run).left;
+        text = (next s run).line ++ (Then (next s run).more).text;
+        more = (Then (next s run).more).more;
+        run = (Then (next s run).more).run;
       }
-  fill_on l = fill_by (next s run).run refl l
+  fill_on l = fill_by (next s run).more refl l
 
 -- ---- from the start
 module _ (room : ℕ) (s : List ℕ) where
@@ -90,64 +93,74 @@ module _ (room : ℕ) (s : List ℕ) where
   unfolding listing joined
   start_full l =
       let n = first s in
-      rw (not_less, first_lines s, taken_full room n.line (rest_of s n.run) l, long_full room n.line (rest_of s n.run) l) (refl, refl)
+      let ls = rest_of s (step_of n.more n.run) in
+      rw (not_less, first_lines s, taken_full room n.line ls l, long_full room n.line ls l) (refl, refl)
 
-  pub start_on :
-      (r : Option Run) → (first s).run ≡ r → length (first s).line ≤ room
-      → (joined (taken room (lines s)) ≡ (first s).line ++ (filling_of (room - length (first s).line) s r).text)
-      × (nat_le (length (listing s)) room ≡ not (is_some (filling_of (room - length (first s).line) s r).left))
+  abbrev Start : Step → Type 0
+  Start r =
+      (joined (taken room (lines s)) ≡ (first s).line ++ (filling_of (room - length (first s).line) s r).text)
+      × (nat_le (length (listing s)) room ≡ not (filling_of (room - length (first s).line) s r).more)
+
+  start_by : (q : Bool) → (first s).more ≡ q → length (first s).line ≤ room → Start (step_of q (first s).run)
   unfolding listing joined filling taken
-  start_on None e l =
+  start_by false e l =
       let n = first s in
       rw (not_less (length (listing s)) room, first_lines s, e, taken_on room n.line [] l, long_on room n.line [] l, none_more (room - length n.line)) (refl, refl)
-  start_on (Some run) e l =
+  start_by true e l =
       let n = first s in
-      rw (not_less (length (listing s)) room, first_lines s, e, taken_on room n.line (rest s run) l, long_on room n.line (rest s run) l) (refl, left_is _ _)
-    where
-      left_is : {A : Type 0} (q : Bool) (x : A) → not q ≡ not (is_some (then_some q x))
-      left_is true x = refl
-      left_is false x = refl
+      rw (not_less (length (listing s)) room, first_lines s, e, taken_on room n.line (rest s n.run) l, long_on room n.line (rest s n.run) l) (refl, refl)
+
+  pub start_on : (r : Step) → r ≡ step_of (first s).more (first s).run → length (first s).line ≤ room → Start r
+  start_on r e l = rw e (start_by (first s).more refl l)
 
 -- ---- a row that is being filled: what is left, put at `at`, gives what the whole gives
-pub record Left (s old : List ℕ) (from : ℕ) (run : Run) (out : List ℕ) (at : ℕ) (now : Option Run) : Type 0 where
+pub record Left (s old : List ℕ) (from : ℕ) (run : Run) (out : List ℕ) (at : ℕ) (now : Step) : Type 0 where
   pub row : put out at (filling_of (length old - at) s now).text ≡ put old from (filling (length old - from) s run).text
   pub next : at + length (filling_of (length old - at) s now).text ≡ from + length (filling (length old - from) s run).text
-  pub left : (filling_of (length old - at) s now).left ≡ (filling (length old - from) s run).left
+  pub then :
+      step_of (filling_of (length old - at) s now).more (filling_of (length old - at) s now).run
+      ≡ step_of (filling (length old - from) s run).more (filling (length old - from) s run).run
 
 -- what a filled row holds when nothing more is put into it
-pub record Full (s old : List ℕ) (from : ℕ) (run : Run) (new : List ℕ) (end : ℕ) (now : Option Run) : Type 0 where
+pub record Full (s old : List ℕ) (from : ℕ) (run : Run) (new : List ℕ) (end : ℕ) (now : Step) : Type 0 where
   pub row : Put old new from (filling (length old - from) s run).text end
-  pub left : now ≡ (filling (length old - from) s run).left
+  pub then : now ≡ step_of (filling (length old - from) s run).more (filling (length old - from) s run).run
 
 module _ (s old : List ℕ) (from : ℕ) (run : Run) (out : List ℕ) (at : ℕ) where
   left_stops :
-      (now : Option Run) → Left s old from run out at now → filling_of (length old - at) s now ≡ record { text = []; left = now }
-      → Full s old from run out at now
-  left_stops now l e = record {
-    row = record { row = sym (put_nothing out at) ∙ rw e at l.row; next = omega (arith, rw e at l.next) };
-    left = rw e at l.left;
-  }
+      (now : Step) (q : Bool) (here : Run) → Left s old from run out at now
+      → filling_of (length old - at) s now ≡ record { text = []; more = q; run = here }
+      → Full s old from run out at (step_of q here)
+  left_stops now q here l e =
+      record {
+        row = record { row = sym (put_nothing out at) ∙ rw e at l.row; next = omega (arith, rw e at l.next) };
+        then = rw e at l.then;
+      }
 
-  pub left_done : Left s old from run out at None → Full s old from run out at None
-  left_done l = left_stops None l refl
+  pub left_done :
+      (now : Step) (here : Run) → now ≡ Over here → Left s old from run out at now → at ≤ length old
+      → Filled s run old out from (record { end = at; left = now })
+  left_done now here e l h =
+      let w = left_stops (Over here) false here (rw e at l) refl in
+      rw e (record { row = w.row; then = w.then; fits = h; ready = tt; ahead = λ _. tt })
 
-  module _ (here : Run) (l : Left s old from run out at (Some here)) (h : here.at < length s) where
-    pub left_full : length old - at < length (next s here).line → Full s old from run out at (Some here)
-    left_full f = left_stops (Some here) l (fill_full (length old - at) s here h f)
+  module _ (here : Run) (l : Left s old from run out at (More here)) (h : here.at < length s) where
+    pub left_full : length old - at < length (next s here).line → Full s old from run out at (More here)
+    left_full f = left_stops (More here) true here l (fill_full (length old - at) s here h f)
 
     pub left_on :
         (new : List ℕ) (end : ℕ) → Put out new at (next s here).line end → length (next s here).line ≤ length old - at
-        → at ≤ length out → Left s old from run new end (next s here).run
+        → at ≤ length out → Left s old from run new end (step_of (next s here).more (next s here).run)
     left_on new end p f a =
         let e = fill_on (length old - at) s here h f in
         let room : length old - end ≡ length old - at - length (next s here).line = omega (arith, p.next) in
-        let t = (filling_of (length old - at - length (next s here).line) s (next s here).run).text in
+        let t = (Then (length old - at) s here h (next s here).more).text in
         let q : Put out (put new end t) at ((next s here).line ++ t) (end + length t) =
         put_then a p (record { row = refl; next = refl }) in
         record {
           row = rw room (q.row ∙ rw e at l.row);
           next = rw room (q.next ∙ rw e at l.next);
-          left = rw room (rw e at l.left);
+          then = rw room (rw e at l.then);
         }
 
 -- a row with room for any line takes one
@@ -158,30 +171,40 @@ some_fits a₀ a at from room n q k f r = go (nat_lt a₀ a) refl
     go true e = ltb-true a₀ a e
     go false e = absurd (omega (arith, q (ltb-false a₀ a e)))
 
-not_flip : (p q : Bool) → p ≡ not q → q ≡ not p
-not_flip p true e = rw e
-not_flip p false e = rw e
+more_is : (q : Bool) (a b : Run) → More a ≡ step_of q b → q ≡ true
+more_is true a b e = refl
+more_is false a b e = cc
+
+over_is : (q : Bool) (a b : Run) → Over a ≡ step_of q b → q ≡ false
+over_is true a b e = cc
+over_is false a b e = refl
 
 -- ---- the whole listing in a row: the cases
-module _ (s old : List ℕ) where
-  pub wrote_none : length old < length (first s).line → Wrote s old old (record { len = 0; whole = false })
-  wrote_none l =
-      let w = start_full (length old) s l in
+module _ (s old line : List ℕ) where
+  pub wrote_none : (r : Step) → Opened s line r → length old < length line → Wrote s old old (record { len = 0; whole = false })
+  wrote_none r o l =
+      let w = start_full (length old) s (rw o.text at l) in
       record { row = rw w.0 (record { row = sym (put_nothing old 0); next = refl }); whole = sym w.1 }
 
-  module _ (mid : List ℕ) (at : ℕ) (p : Put old mid 0 (first s).line at) (a : at ≤ length old) where
-    pub wrote_first : (first s).run ≡ None → Wrote s old mid (record { len = at; whole = true })
-    wrote_first e =
-        let w = start_on (length old) s None e (omega (arith, p.next)) in
-        record { row = rw (w.0, append-nil) p; whole = sym w.1 }
+  module _ (mid : List ℕ) (at : ℕ) (run : Run) (p : Put old mid 0 line at) (l : length line ≤ length old) where
+    pub wrote_first : Opened s line (Over run) → Wrote s old mid (record { len = at; whole = true })
+    wrote_first o =
+        let w = start_on (length old) s (Over run) o.then (rw o.text at l) in
+        record { row = rw (w.0, append-nil) (rw o.text at p); whole = sym w.1 }
 
-    pub wrote_on :
-        (new : List ℕ) (run : Run) (r : Part) (whole : Bool) → (first s).run ≡ Some run → length mid ≡ length old
-        → Put mid new at (filling (length mid - at) s run).text r.end → r.left ≡ (filling (length mid - at) s run).left
-        → is_some r.left ≡ not whole → Wrote s old new (record { len = r.end; whole = whole })
-    wrote_on new run r whole g k f e n =
-        let w = start_on (length old) s (Some run) g (omega (arith, p.next)) in
-        let room : length mid - at ≡ length old - length (first s).line = omega (arith, p.next) in
-        let q = put_then (omega arith) p f in
-        let left = rw room at e in
-        record { row = rw w.0 (rw room at q); whole = not_flip _ _ (rw left at n) ∙ sym w.1 }
+    module _ (o : Opened s line (More run)) (k : length mid ≡ length old) (new : List ℕ) (f : Part) (i : Filled s run mid new at f) where
+      abbrev more : Bool
+      more = (filling (length mid - at) s run).more
+
+      wrote_by : Wrote s old new (record { len = f.end; whole = not more })
+      wrote_by =
+          let w = start_on (length old) s (More run) o.then (rw o.text at l) in
+          let q : Put old mid 0 (first s).line at = rw o.text at p in
+          let room : length mid - at ≡ length old - length (first s).line = omega (arith, q.next) in
+          record { row = rw w.0 (rw room at (put_then (omega arith) q i.row)); whole = rw (w.1, ← room) }
+
+      pub wrote_part : (then : Run) → f.left ≡ More then → Wrote s old new (record { len = f.end; whole = false })
+      wrote_part then g = rw (more_is more then _ (sym g ∙ i.then)) at wrote_by
+
+      pub wrote_whole : (then : Run) → f.left ≡ Over then → Wrote s old new (record { len = f.end; whole = true })
+      wrote_whole then g = rw (over_is more then _ (sym g ∙ i.then)) at wrote_by

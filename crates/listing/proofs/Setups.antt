@@ -1,5 +1,5 @@
 -- The setup lines: as pieces of the script and as a walk over it; and the judgement.
-use Rattle.std.specs.Prelude.{◌≡◌, ℕ, zero, suc, ◌+◌, ◌-◌, ◌<◌, ◌≤◌, Bool, true, false, cond, nat_eq, nat_lt, List, [], ◌∷◌, ◌++◌, length, take, drop, set, Option, Some, None, IfSome, Result, Ok, Err, MatchResult}
+use Rattle.std.specs.Prelude.{◌≡◌, ℕ, zero, suc, ◌+◌, ◌-◌, ◌<◌, ◌≤◌, Bool, true, false, cond, nat_eq, nat_lt, List, [], ◌∷◌, ◌++◌, length, take, drop, set, Option, Some, None, Result, Ok, Err, MatchResult}
 use Rattle.std.proofs.Common.{refl, ap, sym, ◌∙◌, arith, add-one, eq-eqb, ne_eqb, eqb-true, lt-ltb, le-ltb, ltb-true, take-suc-set, take_all}
 use Rattle.std.specs.Bool.{then_some}
 use Rattle.std.proofs.lemmas.Option.{same_Some}
@@ -19,10 +19,11 @@ use Rattle.reader.specs.Cuts.{Index, split, is_none}
 use Rattle.reader.specs.Values.{on_value}
 use Rattle.reader.specs.Lines.{setup_value}
 use Rattle.reader.proofs.Cuts.{split_at, split_end, split_some, index_at}
+use Rattle.listing.specs.declared.inner.Step.TheVariants.{Over}
 use Rattle.listing.specs.declared.inner.begin.SetupLines.{SetupLines}
 use Rattle.listing.specs.declared.inner.begin.BadLine.{BadLine}
 use Rattle.listing.specs.Listing.{bad_line, bad_input, setup_line, events_from, setup_of, in_fields, judged, setup_from, lines}
-use Rattle.listing.specs.Run.{Next, last, ongoing, end_of, piece, fitting, opened, started, judged_at, open_from, first, Ready, Opened, settled, SetupRead, rest}
+use Rattle.listing.specs.Run.{Next, last, step_of, IfMore, end_of, piece, fitting, opened, nowhere, judged_at, open_from, first, Ready, Opened, settled, SetupRead, rest}
 use Rattle.listing.proofs.Steps.{if_then, rest_of, then, rest_more}
 
 -- ---- two tests in one
@@ -70,7 +71,7 @@ module _ (S : Setup) where
 
 -- ---- reading the lines one by one
 module _ (s : List ℕ) (k n at : ℕ) (vs : List ℕ) where
-  pub open_cut : Index 10 s at (length s) → open_from (suc k) n at vs s ≡ last (bad_line n)
+  pub open_cut : Index 10 s at (length s) → open_from (suc k) n at vs s ≡ last nowhere (bad_line n)
   unfolding open_from
   open_cut i = rw (← i.is, eq-eqb (length s) (length s) refl)
 
@@ -78,7 +79,7 @@ module _ (s : List ℕ) (k n at : ℕ) (vs : List ℕ) where
     other : e ≡ length s → ⊥
     other q = omega arith
 
-    pub open_bad : setup_value n (take (e - at) (drop at s)) ≡ None → open_from (suc k) n at vs s ≡ last (bad_line n)
+    pub open_bad : setup_value n (take (e - at) (drop at s)) ≡ None → open_from (suc k) n at vs s ≡ last nowhere (bad_line n)
     unfolding open_from
     open_bad v = rw (← i.is, ne_eqb e (length s) other, v)
 
@@ -102,9 +103,9 @@ one_more l i x h = rw (add-one i) (sym (take-suc-set l i x h))
 events_more :
     (S : Setup) (at : ℕ) (s : List ℕ)
     → events_from (fresh_bench S) 9 1 (split 10 (drop at s))
-    ≡ rest_of s (ongoing s (started at (fresh_bench S)))
+    ≡ rest_of s (step_of (nat_lt at (length s)) (record { at = at; line = 9; event = 1; bench = fresh_bench S }))
 unfolding rest
-events_more S at s = rest_more s (started at (fresh_bench S))
+events_more S at s = rest_more s (record { at = at; line = 9; event = 1; bench = fresh_bench S })
 
 judged_by : (S : Setup) (at : ℕ) (s : List ℕ) (q : Bool) → in_fields S also admitted S ≡ q
     → judged S (split 10 (drop at s)) ≡ then s (judged_at S at s)
@@ -178,7 +179,7 @@ first_lines s = first_by s (nat_lt 65536 (length s)) refl
 
 -- ---- a run that begins has a line to begin with
 abbrev Within : List ℕ → Next → Type 0
-Within s n = IfSome n.run (λ run. run.at < length s)
+Within s n = IfMore (step_of n.more n.run) (λ run. run.at < length s)
 
 within_judged : (S : Setup) (at : ℕ) (s : List ℕ) (q : Bool) → in_fields S also admitted S ≡ q → Within s (judged_at S at s)
 unfolding judged_at
@@ -186,7 +187,7 @@ within_judged S at s true e = rw e (if_then _ _ _ (λ m. ltb-true at (length s) 
 within_judged S at s false e = rw e tt
 
 within_by : (s : List ℕ) (n : ℕ) (q : Bool) (v : Option ℕ) (go : ℕ → Next) → ((x : ℕ) → Within s (go x))
-    → Within s (cond q (last (bad_line n)) (on_value v (last (bad_line n)) go))
+    → Within s (cond q (last nowhere (bad_line n)) (on_value v (last nowhere (bad_line n)) go))
 within_by s n true v go h = tt
 within_by s n false (Some x) go h = h x
 within_by s n false None go h = tt
@@ -204,7 +205,7 @@ unfolding first
 within_first s true e = rw e tt
 within_first s false e = rw e (within_open 8 1 0 [] s)
 
-pub first_within : (s : List ℕ) → IfSome (first s).run (λ run. run.at < length s)
+pub first_within : (s : List ℕ) → IfMore (step_of (first s).more (first s).run) (λ run. run.at < length s)
 first_within s = within_first s (nat_lt 65536 (length s)) refl
 
 -- ---- the cases of the first line
@@ -217,7 +218,7 @@ taken_by true b c e = (refl, cc)
 taken_by false b c e = absurd (cc)
 
 module _ (s : List ℕ) where
-  pub first_long : 65536 < length s → first s ≡ last bad_input
+  pub first_long : 65536 < length s → first s ≡ last nowhere bad_input
   unfolding first
   first_long h = rw (lt-ltb 65536 (length s) h)
 
@@ -226,20 +227,26 @@ module _ (s : List ℕ) where
     unfolding first
     first_settled r i = rw (le-ltb 65536 (length s) h) i.is
 
-    pub first_bad : (b : BadLine) → SetupRead s (Err b) → first s ≡ last (bad_line b.number)
+    pub first_bad : (b : BadLine) → SetupRead s (Err b) → first s ≡ last nowhere (bad_line b.number)
     first_bad b i = first_settled (Err b) i
 
     module _ (l : SetupLines) (i : SetupRead s (Ok l)) where
-      pub first_refused : (why : Refusal) → Err why ≡ opened (setup_of l.values) → first s ≡ last (setup_line (number why))
+      pub first_refused : (why : Refusal) → Err why ≡ opened (setup_of l.values) → first s ≡ last nowhere (setup_line (number why))
       unfolding judged_at
       first_refused why e = let t = refused_by _ _ why e in first_settled (Ok l) i ∙ rw (t.0, t.1)
 
-      first_on : (b : Bench) → Ok b ≡ opened (setup_of l.values) → first s ≡ record { line = setup_line 0; run = ongoing s (started l.end b) }
+      first_on : (b : Bench) → Ok b ≡ opened (setup_of l.values) → first s
+          ≡ record {
+            line = setup_line 0;
+            more = nat_lt l.end (length s);
+            run = record { at = l.end; line = 9; event = 1; bench = b };
+          }
       unfolding judged_at
       first_on b e = let t = taken_by _ _ b e in first_settled (Ok l) i ∙ rw (t.0, t.1)
 
       pub opened_on :
-          (line : List ℕ) (b : Bench) → Ok b ≡ opened (setup_of l.values) → line ≡ setup_line 0 → Opened s line (ongoing s (started l.end b))
+          (line : List ℕ) (b : Bench) → Ok b ≡ opened (setup_of l.values) → line ≡ setup_line 0
+          → Opened s line (step_of (nat_lt l.end (length s)) (record { at = l.end; line = 9; event = 1; bench = b }))
       opened_on line b e p =
           let f = first_on b e in
           record {
@@ -254,5 +261,5 @@ module _ (s : List ℕ) where
                 });
           }
 
-  pub opened_last : (line : List ℕ) → first s ≡ last line → Opened s line None
+  pub opened_last : (line : List ℕ) → first s ≡ last nowhere line → Opened s line (Over nowhere)
   opened_last line e = record { text = rw e; then = rw e; ready = tt }

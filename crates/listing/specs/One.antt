@@ -1,9 +1,10 @@
 -- Any two results that a contract allows are equal, and so are the rows.
-use Rattle.std.specs.Prelude.{◌≡◌, ℕ, Bool, List, Option}
+use Rattle.std.specs.Prelude.{◌≡◌, ℕ, Bool, List}
 use Rattle.std.proofs.Common.{ap, sym, ◌∙◌}
 use Rattle.writer.specs.One.{one_put}
 use Rattle.listing.specs.declared.Written.{Written}
 use Rattle.listing.specs.declared.inner.Run.{Run}
+use Rattle.listing.specs.declared.inner.Step.{Step}
 use Rattle.listing.specs.declared.inner.Part.{Part}
 use Rattle.listing.specs.Run.{Next, WroteLine}
 use Rattle.listing.specs.Fitting.{Filled, Wrote}
@@ -11,8 +12,8 @@ use Rattle.listing.specs.Fitting.{Filled, Wrote}
 abbrev written : ℕ → Bool → Written
 written n w = record { len = n; whole = w }
 
-abbrev part : ℕ → Option Run → Part
-part n run = record { end = n; left = run }
+abbrev part : ℕ → Step → Part
+part n left = record { end = n; left = left }
 
 same_written : (a b : Written) → a.len ≡ b.len → a.whole ≡ b.whole → a ≡ b
 same_written a b e f = ap (λ (n : ℕ). written n a.whole) e ∙ ap (written b.len) f
@@ -26,7 +27,7 @@ one_write {r = r} {r' = r'} p q =
     (o.0, same_written r r' o.1 (p.whole ∙ sym q.whole))
 
 -- first_line and next_line
-pub one_line : {s line line' : List ℕ} {n : Next} {r r' : Option Run} → WroteLine s n line r → WroteLine s n line' r' → (line ≡ line') × (r ≡ r')
+pub one_line : {s line line' : List ℕ} {n : Next} {r r' : Step} → WroteLine s n line r → WroteLine s n line' r' → (line ≡ line') × (r ≡ r')
 one_line p q = (p.text ∙ sym q.text, p.then ∙ sym q.then)
 
 pub one_fill :
@@ -34,4 +35,4 @@ pub one_fill :
     → Filled s run old new from r → Filled s run old new' from r' → (new ≡ new') × (r ≡ r')
 one_fill {r = r} {r' = r'} p q =
     let o = one_put p.row q.row in
-    (o.0, same_part r r' o.1 (p.left ∙ sym q.left))
+    (o.0, same_part r r' o.1 (p.then ∙ sym q.then))

@@ -1,12 +1,12 @@
 -- A run of a script, a line at a time: what a step writes and where the run stands after it. The theorems in proofs/ join the steps'
 -- lines to the listing.
-use Rattle.std.specs.Prelude.{◌≡◌, ℕ, zero, suc, ◌+◌, ◌-◌, ◌<◌, ◌≤◌, cond, List, [], ◌∷◌, ◌++◌, length, take, drop, ◌==◌, nat_lt, Option, None, IfSome, Result, Ok, Err, IfOk}
+use Rattle.std.specs.Prelude.{◌≡◌, ℕ, zero, suc, ◌+◌, ◌-◌, ◌<◌, ◌≤◌, Bool, false, cond, List, [], ◌∷◌, ◌++◌, length, take, drop, ◌==◌, nat_lt, Option, Result, Ok, Err, IfOk, ⊤}
 use Rattle.std.specs.Bool.{then_some}
 use Rattle.rules.specs.declared.Setup.{Setup}
 use Rattle.rules.specs.declared.Bench.{Bench}
 use Rattle.rules.specs.declared.Refusal.{Refusal}
 use Rattle.rules.specs.declared.Refusal.TheVariants.{NotAdmitted}
-use Rattle.rules.specs.Setups.{◌also◌, admitted}
+use Rattle.rules.specs.Setups.{◌also◌, admitted, zero_setup}
 use Rattle.rules.specs.Parts.{fresh_bench}
 use Rattle.rules.specs.Events as rules
 use Rattle.reader.specs.Cuts.{index_of, split}
@@ -14,21 +14,29 @@ use Rattle.reader.specs.Values.{on_value}
 use Rattle.reader.specs.Lines.{line_of, setup_value}
 use Rattle.writer.specs.Lines.{event_line}
 use Rattle.listing.specs.declared.inner.Run.{Run}
+use Rattle.listing.specs.declared.inner.Step.{Step}
+use Rattle.listing.specs.declared.inner.Step.TheVariants.{More, Over}
 use Rattle.listing.specs.declared.inner.begin.SetupLines.{SetupLines}
 use Rattle.listing.specs.declared.inner.begin.BadLine.{BadLine}
 use Rattle.listing.specs.Listing.{bad_input, bad_line, setup_line, outcome, events_from, setup_of, in_fields}
 
--- one line written, and where the run stands then, if the script has another line
+-- one line written, whether the script has another, and where the run stands then
 pub record Next : Type 0 where
   pub line : List ℕ
-  pub run : Option Run
+  pub more : Bool
+  pub run : Run
 
-abbrev pub last : List ℕ → Next
-last l = record { line = l; run = None }
+abbrev pub last : Run → List ℕ → Next
+last run l = record { line = l; more = false; run = run }
 
--- a run goes on where a line starts
-abbrev pub ongoing : List ℕ → Run → Option Run
-ongoing s run = then_some (nat_lt run.at (length s)) run
+-- where a step leaves the run, as the code gives it
+abbrev pub step_of : Bool → Run → Step
+step_of more run = cond more (More run) (Over run)
+
+-- a fact of the run, where it goes on
+abbrev pub IfMore : Step → (Run → Type 0) → Type 0
+IfMore (More run) P = P run
+IfMore (Over run) P = ⊤
 
 -- ---- the setup
 -- where the line ends that starts at the place `at`, and the line
@@ -46,41 +54,43 @@ fitting S = then_some (in_fields S) S
 abbrev pub opened : Setup → Result Bench Refusal
 opened S = cond (in_fields S also admitted S) (Ok (fresh_bench S)) (Err NotAdmitted)
 
--- the events start at the place `at`
-abbrev pub started : ℕ → Bench → Run
-started at b = record { at = at; line = 9; event = 1; bench = b }
+-- the run of a script that has none
+abbrev pub nowhere : Run
+nowhere = record { at = 0; line = 0; event = 0; bench = fresh_bench zero_setup }
 
+-- the events start at the place `at`
 unfoldable pub judged_at : Setup → ℕ → List ℕ → Next
 judged_at S at s =
     cond (in_fields S also admitted S)
-    (record { line = setup_line 0; run = ongoing s (started at (fresh_bench S)) })
-    (last (setup_line 1))
+    (record {
+      line = setup_line 0;
+      more = nat_lt at (length s);
+      run = record { at = at; line = 9; event = 1; bench = fresh_bench S };
+    })
+    (last nowhere (setup_line 1))
 
 -- k setup lines are left; the next starts at the place `at` and has the number n
 unfoldable pub open_from : ℕ → ℕ → ℕ → List ℕ → List ℕ → Next
 open_from zero n at vs s = judged_at (setup_of vs) at s
 open_from (suc k) n at vs s =
-    cond (end_of s at == length s) (last (bad_line n))
-    (on_value (setup_value n (piece s at)) (last (bad_line n)) (λ v. open_from k (n + 1) (end_of s at + 1) (vs ++ v ∷ []) s))
+    cond (end_of s at == length s) (last nowhere (bad_line n))
+    (on_value (setup_value n (piece s at)) (last nowhere (bad_line n)) (λ v. open_from k (n + 1) (end_of s at + 1) (vs ++ v ∷ []) s))
 
 unfoldable pub first : List ℕ → Next
-first s = cond (nat_lt 65536 (length s)) (last bad_input) (open_from 8 1 0 [] s)
+first s = cond (nat_lt 65536 (length s)) (last nowhere bad_input) (open_from 8 1 0 [] s)
 
 -- ---- an event
--- the run after a line that ends at the place e, with the bench b
-abbrev pub moved : Run → ℕ → Bench → Run
-moved run e b = record { at = e + 1; line = run.line + 1; event = run.event + 1; bench = b }
-
 abbrev pub went : List ℕ → Run → rules.Out Bench → Next
 went s run o = record {
   line = event_line run.event o.answer o.units;
-  run = ongoing s (moved run (end_of s run.at) o.state);
+  more = nat_lt (end_of s run.at + 1) (length s);
+  run = record { at = end_of s run.at + 1; line = run.line + 1; event = run.event + 1; bench = o.state };
 }
 
 unfoldable pub next : List ℕ → Run → Next
 next s run =
-    cond (end_of s run.at == length s) (last (bad_line run.line))
-    (on_value (line_of (piece s run.at)) (last (bad_line run.line)) (λ ev. went s run (outcome run.bench ev)))
+    cond (end_of s run.at == length s) (last run (bad_line run.line))
+    (on_value (line_of (piece s run.at)) (last run (bad_line run.line)) (λ ev. went s run (outcome run.bench ev)))
 
 -- ---- what is left of the listing
 unfoldable pub rest : List ℕ → Run → List (List ℕ)
@@ -89,7 +99,7 @@ rest s run = events_from run.bench run.line run.event (split 10 (drop run.at s))
 -- where the run stands after k lines
 unfoldable pub after : ℕ → List ℕ → Run → Run
 after zero s run = run
-after (suc k) s run = on_value (next s run).run run (after k s)
+after (suc k) s run = after k s (next s run).run
 
 -- ---- what the functions ensure
 -- a run that has a line to go on with
@@ -99,22 +109,22 @@ pub record Ready (s : List ℕ) (run : Run) : Type 0 where
   pub lines : run.line ≤ run.at + 1
   pub events : run.event ≤ run.at + 1
 
--- the line that a step wrote, and the run that is left: `n` is the step
-pub record WroteLine (s : List ℕ) (n : Next) (line : List ℕ) (r : Option Run) : Type 0 where
+-- the line that a step wrote, and where it leaves the run: `n` is the step
+pub record WroteLine (s : List ℕ) (n : Next) (line : List ℕ) (r : Step) : Type 0 where
   pub text : line ≡ n.line
-  pub then : r ≡ n.run
-  pub ready : IfSome r (Ready s)
+  pub then : r ≡ step_of n.more n.run
+  pub ready : IfMore r (Ready s)
 
-abbrev pub Opened : List ℕ → List ℕ → Option Run → Type 0
+abbrev pub Opened : List ℕ → List ℕ → Step → Type 0
 Opened s line r = WroteLine s (first s) line r
 
-pub record Stepped (s : List ℕ) (run : Run) (line : List ℕ) (r : Option Run) : Type 0 where
+pub record Stepped (s : List ℕ) (run : Run) (line : List ℕ) (r : Step) : Type 0 where
   pub wrote : WroteLine s (next s run) line r
-  pub ahead : IfSome r (λ then. run.at < then.at)
+  pub ahead : IfMore r (λ then. run.at < then.at)
 
 abbrev pub settled : List ℕ → Result SetupLines BadLine → Next
 settled s (Ok l) = judged_at (setup_of l.values) l.end s
-settled s (Err bad) = last (bad_line bad.number)
+settled s (Err bad) = last nowhere (bad_line bad.number)
 
 pub record SetupRead (s : List ℕ) (r : Result SetupLines BadLine) : Type 0 where
   pub is : open_from 8 1 0 [] s ≡ settled s r

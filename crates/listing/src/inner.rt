@@ -1,6 +1,6 @@
 // Running a script. A run stands at the start of a line; a step reads that line, runs its event and writes one line of the listing.
-ghost use Rattle.std.specs.Prelude.{◌≤◌, length};
-ghost use Rattle.listing.specs.Run.{Ready, Stepped, Opened};
+ghost use Rattle.std.specs.Prelude.{◌≡◌, ◌≤◌, length, nat_lt};
+ghost use Rattle.listing.specs.Run.{Ready, Stepped, Opened, nowhere, step_of};
 ghost use Rattle.listing.specs.Fitting.{Filled};
 
 use rules::Bench;
@@ -18,35 +18,65 @@ pub struct Run {
     pub bench: Bench,
 }
 
-// A part of the listing in a row: the place after it, and the run that is left, if there is more.
+// Where a line leaves the run: the script has another line, or the listing is over.
+#[derive(Clone, Copy)]
+pub enum Step {
+    More(Run),
+    Over(Run),
+}
+
+// A part of the listing in a row: the place after it, and where it leaves the run.
 #[derive(Clone, Copy)]
 pub struct Part {
     pub end: usize,
-    pub left: Option<Run>,
+    pub left: Step,
 }
 
-// The first line of the listing: the setup lines are read, and the setup is judged. The run is there if the script has an event line.
+// The run of a script that has none.
+fn nowhere() -> Run
+    ensures { result ≡ nowhere }
+{
+    Run {
+        at: 0,
+        line: 0,
+        event: 0,
+        bench: bench::inner::first(setup::zero()),
+    }
+}
+
+// There is more if the run stands before the script's end.
+fn leave(src: &[u8], run: Run) -> Step
+    ensures { result ≡ step_of (nat_lt run.at (length src.now)) run }
+{
+    if run.at < src.len() {
+        Step::More(run)
+    } else {
+        Step::Over(run)
+    }
+}
+
+// The first line of the listing: the setup lines are read, and the setup is judged.
 #[tactic(auto, using(crate::proofs::Setups::first_long, crate::proofs::Setups::first_bad, crate::proofs::Setups::first_refused, crate::proofs::Setups::opened_on, crate::proofs::Setups::opened_last))]
-pub fn first_line(src: &[u8], line: &mut Line) -> Option<Run>
+pub fn first_line(src: &[u8], line: &mut Line) -> Step
     ensures { Opened src.now line.new result }
 {
     if 65536 < src.len() {
         line.clear();
         line.push_bytes(b"bad input\n");
-        return None;
+        return Step::Over(nowhere());
     }
     let setup = match begin::read_lines(src) {
         Ok(setup) => setup,
         Err(bad) => {
             text::set_bad(line, bad.number);
-            return None;
+            return Step::Over(nowhere());
         }
     };
     let bench = match begin::judge(setup.values) {
         Ok(bench) => bench,
         Err(why) => {
             text::set_setup(line, why as u64);
-            return None;
+            return Step::Over(nowhere());
         }
     };
     text::set_setup(line, 0);
@@ -56,22 +86,22 @@ pub fn first_line(src: &[u8], line: &mut Line) -> Option<Run>
         event: 1,
         bench,
     };
-    (run.at < src.len()).then_some(run)
+    leave(src, run)
 }
 
 // The line of the listing for the script's line at which the run stands. The run ends with a bad line, and with the script.
 #[tactic(auto, using(crate::proofs::Steps::stepped_cut, crate::proofs::Steps::stepped_bad))]
-pub fn next_line(src: &[u8], run: Run, line: &mut Line) -> Option<Run>
+pub fn next_line(src: &[u8], run: Run, line: &mut Line) -> Step
     requires { Ready src.now run }
     ensures { Stepped src.now run line.new result }
 {
     let Some(end) = reader::inner::index(src, run.at, b'\n') else {
         text::set_bad(line, run.line);
-        return None;
+        return Step::Over(run);
     };
     let Some(event) = reader::read_event(&src[run.at..end]) else {
         text::set_bad(line, run.line);
-        return None;
+        return Step::Over(run);
     };
     let mut units = [0u64; 64];
     let given = bench::apply(run.bench, event, &mut units);
@@ -85,20 +115,19 @@ pub fn next_line(src: &[u8], run: Run, line: &mut Line) -> Option<Run>
         event: run.event + 1,
         bench,
     };
-    (next.at < src.len()).then_some(next)
+    leave(src, next)
 }
 
 // Writes the lines of the listing from `run` on into `out`, from the place `from` on, as long as whole lines fit.
-#[tactic(auto, using(crate::proofs::Fitting::left_done))]
 pub fn fill(src: &[u8], run: Run, out: &mut [u8], from: usize) -> Part
     requires ready { Ready src.now run }
     requires from_in_bounds { from ≤ length out.old }
     ensures { Filled src.now run out.old out.new from result }
 {
     let mut line = Line::new();
-    let mut left = Some(run);
+    let mut left = Step::More(run);
     let mut end = from;
-    while let Some(here) = left {
+    while let Step::More(here) = left {
         let next = next_line(src, here, &mut line);
         if out.len() - end < line.len() {
             break;

@@ -3,6 +3,7 @@
 
 ghost use Rattle.listing.specs.Fitting.{Wrote};
 
+use inner::Step;
 use writer::inner::Line;
 
 pub mod inner;
@@ -28,12 +29,14 @@ pub fn write(src: &[u8], out: &mut [u8]) -> Written
         };
     }
     let len = line.copy_to(out, 0);
-    let Some(run) = first else {
-        return Written { len, whole: true };
-    };
-    let part = inner::fill(src, run, out, len);
-    Written {
-        len: part.end,
-        whole: part.left.is_none(),
+    match first {
+        Step::Over(_) => Written { len, whole: true },
+        Step::More(run) => {
+            let part = inner::fill(src, run, out, len);
+            Written {
+                len: part.end,
+                whole: matches!(part.left, Step::Over(_)),
+            }
+        }
     }
 }

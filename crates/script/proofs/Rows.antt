@@ -1,10 +1,12 @@
 -- What was written, and what is left after it, is the listing; and what a write that failed leaves is a beginning of it.
-use Rattle.std.proofs.Common.{◌≡◌, ℕ, ◌+◌, ◌-◌, ◌<◌, List, ◌++◌, length, take, drop, ap, sym, ◌∙◌, append_assoc, append-nil, subst, take-append-drop, take-add, length-drop, Option, Some, None, Result, Ok, Err, OnErr}
+use Rattle.std.proofs.Common.{◌≡◌, ℕ, ◌+◌, ◌-◌, ◌<◌, List, ◌++◌, length, take, drop, ap, sym, ◌∙◌, append_assoc, append-nil, subst, take-append-drop, take-add, length-drop, Option, Result, Ok, Err, OnErr}
 use Rattle.std.proofs.Math.Seq.{take-length}
 use Rattle.std.specs.Io.KnownBytes.{Appends}
 use Rattle.std.proofs.KnownBytes.{Appends-trans}
 use Rattle.writer.proofs.Row.{put_start}
 use Rattle.listing.specs.declared.inner.Run.{Run}
+use Rattle.listing.specs.declared.inner.Step.{Step}
+use Rattle.listing.specs.declared.inner.Step.TheVariants.{More, Over}
 use Rattle.listing.specs.declared.inner.Part.{Part}
 use Rattle.listing.specs.Listing.{joined, listing}
 use Rattle.listing.specs.Run.{rest, Opened}
@@ -15,25 +17,25 @@ use Rattle.listing.proofs.Whole.{fill_cuts}
 use Rattle.script.specs.Failed.{AppendsStart}
 
 -- a writer's bytes grew by `text`, after which comes what is left of the listing
-pub record Wrote (old new : Option (List ℕ)) (s : List ℕ) (left : Option Run) : Type 0 where
+pub record Wrote (old new : Option (List ℕ)) (s : List ℕ) (left : Step) : Type 0 where
   pub text : List ℕ
   pub grown : Appends old new text
   pub whole : text ++ joined (rest_of s left) ≡ listing s
 
 -- the first line and what is left after it; a row of lines and what is left after it
-first_row : {s line : List ℕ} {r : Option Run} → Opened s line r → line ++ joined (rest_of s r) ≡ listing s
+first_row : {s line : List ℕ} {r : Step} → Opened s line r → line ++ joined (rest_of s r) ≡ listing s
 unfolding listing joined
 first_row {s} o = rw (o.text, o.then) (sym (ap joined (first_lines s)))
 
 more_row : {s d e : List ℕ} {run : Run} {r : Part} → run.at < length s → Filled s run d e 0 r
     → take r.end e ++ joined (rest_of s r.left) ≡ joined (rest s run)
-more_row {s} {d} {run = run} h f = rw (put_start f.row, f.left) (sym (fill_cuts (length d - 0) s run h).whole)
+more_row {s} {d} {run = run} h f = rw (put_start f.row, f.then) (sym (fill_cuts (length d - 0) s run h).whole)
 
-pub wrote_first : {a b : Option (List ℕ)} {s line : List ℕ} {r : Option Run} → Opened s line r → Appends a b line → Wrote a b s r
+pub wrote_first : {a b : Option (List ℕ)} {s line : List ℕ} {r : Step} → Opened s line r → Appends a b line → Wrote a b s r
 wrote_first {line = line} o g = record { text = line; grown = g; whole = first_row o }
 
 pub wrote_more :
-    {a b c : Option (List ℕ)} {s d e : List ℕ} {run : Run} {r : Part} → Wrote a b s (Some run) → run.at < length s
+    {a b c : Option (List ℕ)} {s d e : List ℕ} {run : Run} {r : Part} → Wrote a b s (More run) → run.at < length s
     → Filled s run d e 0 r → Appends b c (take r.end e) → Wrote a c s r.left
 wrote_more {a} {b} {c} {e = e} {r = r} w h f g = record {
   text = w.text ++ take r.end e;
@@ -41,7 +43,7 @@ wrote_more {a} {b} {c} {e = e} {r = r} w h f g = record {
   whole = rw append_assoc (ap (λ t. w.text ++ t) (more_row h f) ∙ w.whole);
 }
 
-pub wrote_all : {a b : Option (List ℕ)} {s : List ℕ} → Wrote a b s None → Appends a b (listing s)
+pub wrote_all : {a b : Option (List ℕ)} {s : List ℕ} {run : Run} → Wrote a b s (Over run) → Appends a b (listing s)
 unfolding joined
 wrote_all {a} {b} w = subst (Appends a b) w.whole (rw append-nil w.grown)
 
@@ -80,10 +82,10 @@ start_after {a} {b} {c} t p g = record {
 
 -- so what was written when a row is written in part is a beginning of the listing
 pub start_first :
-    {a b : Option (List ℕ)} {s line : List ℕ} {r : Option Run} → Opened s line r → AppendsStart a b line → AppendsStart a b (listing s)
+    {a b : Option (List ℕ)} {s line : List ℕ} {r : Step} → Opened s line r → AppendsStart a b line → AppendsStart a b (listing s)
 start_first o g = start_within _ g (first_row o)
 
 pub start_more :
-    {a b c : Option (List ℕ)} {s d e : List ℕ} {run : Run} {r : Part} → Wrote a b s (Some run) → run.at < length s
+    {a b c : Option (List ℕ)} {s d e : List ℕ} {run : Run} {r : Part} → Wrote a b s (More run) → run.at < length s
     → Filled s run d e 0 r → AppendsStart b c (take r.end e) → AppendsStart a c (listing s)
 start_more {a} {c = c} w h f g = subst (AppendsStart a c) w.whole (start_after w.text w.grown (start_within _ g (more_row h f)))

@@ -6,6 +6,7 @@ ghost use Rattle.std.specs.Io.KnownBytes.{Consumes, Appends, IsAtEnd};
 ghost use Rattle.listing.specs.Listing.{listing};
 ghost use Rattle.script.specs.Failed.{AppendsStart, ConsumesStart};
 
+use listing::inner::Step;
 use std::io::{self, Read, Write};
 use writer::inner::Line;
 
@@ -59,7 +60,7 @@ fn write_listing<W: Write>(output: &mut W, src: &[u8]) -> io::Result<()>
     let mut left = listing::inner::first_line(src, &mut line);
     write_full(output, line.as_bytes())?;
     let mut row = [0u8; 16384];
-    while let Some(run) = left {
+    while let Step::More(run) = left {
         let part = listing::inner::fill(src, run, &mut row, 0);
         write_full(output, &row[..part.end])?;
         left = part.left;

@@ -1,24 +1,23 @@
--- `write` meets its contract: the first line, and then the rest where a run is left, as long as lines fit.
-use Rattle.std.proofs.Common.{sym, arith}
-use Rattle.listing.proofs.Fitting.{wrote_none, wrote_first, wrote_on}
+-- `write` meets its contract: the first line, and then the rest where the run goes on, as long as lines fit.
+use Rattle.std.proofs.Common.{arith}
+use Rattle.listing.proofs.Fitting.{wrote_none, wrote_first, wrote_part, wrote_whole}
 use Rattle.listing.proofs.write.Goals as goal
 
 pub returns-then-out-len : goal.returns-then-out-len
-returns-then-out-len c =
-    wrote_none c.args.src.now c.args.out.now (rw (c.len.ensures.value, c.first_line-first.ensures.text) at c.if-out-len.true)
+returns-then-out-len c = wrote_none _ _ _ _ c.first_line-first.ensures (omega (arith, c.len.ensures.value, c.if-out-len.true))
+
+pub returns-in-Over : goal.returns-in-Over
+returns-in-Over c =
+    wrote_first _ _ _ _ _ _ c.copy_to-len.ensures (omega (arith, c.len.ensures.value, c.if-out-len.false)) c.in-Over.ensures
+
+pub returns-in-Over-matches : goal.returns-in-Over-matches
+returns-in-Over-matches c =
+    let p = c.copy_to-len in
+    wrote_whole _ _ _ _ _ _ p.ensures (omega (arith, c.len.ensures.value, c.if-out-len.false)) c.in-More.ensures p.auto.out _ _
+    c.fill-part.ensures _ c.in-Over-matches.is
 
 pub returns-in_default : goal.returns-in_default
 returns-in_default c =
     let p = c.copy_to-len in
-    let f = c.in_default.ensures in
-    wrote_first c.args.src.now c.args.out.now p.new.out p.result (rw f.text at p.ensures)
-    (omega (arith, p.ensures.next, c.len.ensures.value, c.if-out-len.false)) (sym f.then)
-
-pub returns : goal.returns
-returns c =
-    let p = c.copy_to-len in
-    let f = c.in-Some.ensures in
-    let r = c.fill-part.ensures in
-    wrote_on c.args.src.now c.args.out.now p.new.out p.result (rw f.text at p.ensures)
-    (omega (arith, p.ensures.next, c.len.ensures.value, c.if-out-len.false))
-    c.fill-part.new.out _ c.fill-part.result _ (sym f.then) p.auto.out r.row r.left c.is_none.ensures
+    wrote_part _ _ _ _ _ _ p.ensures (omega (arith, c.len.ensures.value, c.if-out-len.false)) c.in-More.ensures p.auto.out _ _
+    c.fill-part.ensures _ c.in_default.is

@@ -14,12 +14,12 @@ loop-left-init g c =
 
 pub returns-in_err-write_full-2-clause-err : goal.returns-in_err-write_full-2-clause-err
 returns-in_err-write_full-2-clause-err g c =
-    let i = rw c.in-Some.is at c.loop-left.invariant in
+    let i = rw c.in-More.is at c.loop-left.invariant in
     on_err c.from_residual-in_err-write_full-2.result (start_more i.1 i.0.within c.fill-part.ensures c.in_err-write_full-2.ensures.err)
 
 pub loop-left-preserved : goal.loop-left-preserved
 loop-left-preserved g c =
-    let i = rw c.in-Some.is at c.loop-left.invariant in
+    let i = rw c.in-More.is at c.loop-left.invariant in
     (c.fill-part.ensures.ready, wrote_more i.1 i.0.within c.fill-part.ensures c.in_ok-write_full-2.ensures.ok)
 
 pub returns-clause-ok : goal.returns-clause-ok

@@ -13,5 +13,5 @@ returns c =
     let t = taken r.result c.unwrap_or_else-count.result (MatchResult-weaker r.result c.unwrap_or_else-count.ensures (λ x e. e) (λ e h. search rules)) in
     let s = seen c.args.run.bench c.in-Some-read_event.event zeros r.new.row r.result refl r.ensures.gives r.ensures.lent in
     let line = rw (c.clear.ensures, c.from.ensures, c.answer-answer.ensures, s.0, t, s.2) at c.push_event.ensures in
-    rw (c.then_some.ensures, t, s.1)
+    rw (c.leave.ensures, t, s.1)
     (stepped_on _ _ _ i.0 i.1 _ _ (sym c.in-Some-read_event.ensures) line c.requires)

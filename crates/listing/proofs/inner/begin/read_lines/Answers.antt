@@ -3,7 +3,7 @@ use Rattle.std.proofs.Common.{◌≡◌, ℕ, suc, ◌+◌, ◌-◌, ◌≤◌, 
 use Rattle.std.proofs.lemmas.Result.{err_from_is_err_and}
 use Rattle.std.proofs.Math.ListN.{length-set}
 use Rattle.listing.specs.Listing.{bad_line}
-use Rattle.listing.specs.Run.{open_from, last, SetupRead}
+use Rattle.listing.specs.Run.{open_from, last, nowhere, SetupRead}
 use Rattle.listing.proofs.Setups.{open_cut, open_bad, open_good, one_more}
 use Rattle.listing.proofs.inner.begin.read_lines.Goals as goal
 
@@ -14,7 +14,7 @@ fewer i n at vs s h = let e : 8 - i ≡ suc (8 - (i + 1)) = omega arith in ap (�
 -- whatever makes the next line bad, reading ends with its number
 ended : (s values : List ℕ) (i at : ℕ) → i ≤ 7
     → open_from 8 1 0 [] s ≡ open_from (8 - i) (i + 1) at (take i values) s
-    → open_from (suc (8 - (i + 1))) (i + 1) at (take i values) s ≡ last (bad_line (i + 1))
+    → open_from (suc (8 - (i + 1))) (i + 1) at (take i values) s ≡ last nowhere (bad_line (i + 1))
     → SetupRead s (Err (record { number = i + 1 }))
 ended s values i at h e b = record {
   is = e ∙ fewer i (i + 1) at (take i values) s h ∙ b;
