@@ -70,7 +70,7 @@ pub fn send(b: Bench, k: u64) -> Result<Bench, Refused<Bench>>
 // The data packet at place j arrives, and the count is of the units that come out: they are written to `row` from its start. `ShortRow`
 // where the row is shorter than RW, `Missing` where there is no such packet; else the packet is gone from its channel, in `Stale`, `Behind`,
 // `Beyond` and `AlreadyStored` too.
-// A count and no slice of the units: the contract gives the count, and the row stays the caller's.
+// A count and no slice of the units: `counted` gives the count, and a lent row is a form that the project fixes.
 pub fn data(b: Bench, j: u64, row: &mut [u64]) -> Result<(usize, Bench), Refused<Bench>>
     ensures gives { result ≡ counted (step wrapped (arrive j (length row.old)) b) }
     ensures lent { row.new ≡ laid (step wrapped (arrive j (length row.old)) b).units row.old }

@@ -18,7 +18,8 @@ pub struct Run {
     pub bench: Bench,
 }
 
-// Where a line leaves the run: the script has another line, or the listing is over.
+// Where a line leaves the run: the script has another line, or the listing is over. No `Option`: `then` of `WroteLine` and `Filled` says
+// of the run in that case too.
 #[derive(Clone, Copy)]
 pub enum Step {
     More(Run),

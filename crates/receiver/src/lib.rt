@@ -54,7 +54,7 @@ fn checked(r: Receiver) -> Result<Receiver, Refused<Receiver>>
 // A data packet arrives; the units that it lets out are written to `row` from its start, and the result counts them. `ShortRow`
 // where the row is shorter than RW, `OutOfRange` where a field of the packet is; `Stale`, `Behind`, `Beyond` or `AlreadyStored`
 // where it is that. A refusal leaves the row.
-// A count and no slice of the units: the contract gives the count, and the row stays the caller's.
+// A count and no slice of the units: `counted` gives the count, and a lent row is a form that the project fixes.
 #[tactic(auto, using(rules::proofs::Fits::fit_data))]
 pub fn data(
     r: Receiver,

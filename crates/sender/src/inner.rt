@@ -115,7 +115,7 @@ pub fn formed(s: &Sender) -> bool
 }
 
 // The slots of the numbers from `from` up to RW - 1 after q hold nothing. The slots and their ring, and not the sender: the ring has
-// its bounds as a type.
+// its bounds as a type. No `all`: over a range, with a closure that asks the ring for a slot, its proof did not close.
 fn empty_ahead(slots: &[u64; 64], ring: Ring, q: u32, from: u32) -> bool
     ensures { result ≡ all_from (empty_ahead ring.window slots.now q) from (ring.window - from) }
 {

@@ -43,6 +43,7 @@ fn within_limits(s: Setup) -> bool
         & ((1 <= s.life) & (1 <= s.rate))
 }
 
+// The bits are a `requires`: the setup is a public value, and its ranges are made in here.
 fn within_ranges(s: Setup) -> bool
     requires { (s.seqbits ≤ 32) × (s.clockbits ≤ 32) }
     ensures { result ≡ in_ranges s }

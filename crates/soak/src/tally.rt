@@ -12,7 +12,8 @@ fn mixed(sum: u64, v: u64) -> u64
     ((sum << 5) ^ (sum >> 59)).wrapping_add(v)
 }
 
-// An event's answer, how many units it delivered, and the units. The answer is its number: the sum is of numbers.
+// An event's answer, how many units it delivered, and the units. The answer is its number, as `tallied`
+// of specs/Tally.antt has it.
 #[tactic(auto, using(crate::proofs::Tallies::all_mixed_more))]
 fn summed(sum: u64, answer: u32, units: &[u64]) -> u64
     ensures { result ≡ all_mixed (mixed (mixed sum answer) (length units.now)) units.now }

@@ -11,7 +11,7 @@ fn left(given: Result<Bench, Refused<Bench>>) -> Bench {
     given.unwrap_or_else(|refused| refused.state)
 }
 
-// The same of an arrival, with the count of the units that it let out.
+// The same of an arrival, with the count of the units that it let out. Two functions: the count comes with an arrival alone.
 fn delivered(given: Result<(usize, Bench), Refused<Bench>>) -> (usize, Bench) {
     given.unwrap_or_else(|refused| (0, refused.state))
 }

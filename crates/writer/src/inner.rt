@@ -117,7 +117,7 @@ impl Line {
         self.push(b'\n');
     }
 
-    // The line of an event: its number, the answer, the delivered units.
+    // The line of an event: its number, the answer, the delivered units. The answer is its number, as `event_line` has it.
     #[tactic(auto, unfolding(crate::specs::Lines::event_line))]
     pub fn push_event(&mut self, event: u64, answer: u64, units: &[u64])
         requires { length self.old + (42 + length units.now * 21) ≤ CAPACITY }

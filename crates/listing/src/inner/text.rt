@@ -23,7 +23,7 @@ pub fn set_bad(line: &mut Line, number: u64)
     set_word(line, b"bad line", number);
 }
 
-// The answer is its number, as the line shows it.
+// The answer is its number, as `setup_line` has it.
 pub fn set_setup(line: &mut Line, answer: u64)
     ensures { line.new ≡ setup_line answer }
 {
