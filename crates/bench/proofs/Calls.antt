@@ -22,7 +22,7 @@ use Rattle.bench.specs.Calls.{Given, state_of, count_of, at_count_0, Call, Allow
 
 -- ---- what the caller finds in a result
 module _ (o : Out Bench) where
-  state_counted : state_of (counted o) ≡ o.state
+  pub state_counted : state_of (counted o) ≡ o.state
   state_counted = go (eqb o.answer 0)
     where
       go : (t : Bool) → state_of (left_with (cond t (Ok (length o.units)) (Err (refusal o.answer))) o.state) ≡ o.state
@@ -30,7 +30,7 @@ module _ (o : Out Bench) where
       go false = refl
 
   -- a refusal delivers nothing, so the count is right in each case
-  units_counted : ((o.answer ≡ 0 → ⊥) → o.units ≡ []) → (row : List ℕ) → take (count_of (counted o)) (laid o.units row) ≡ o.units
+  pub units_counted : ((o.answer ≡ 0 → ⊥) → o.units ≡ []) → (row : List ℕ) → take (count_of (counted o)) (laid o.units row) ≡ o.units
   units_counted none row = go (eqb o.answer 0) refl
     where
       go :

@@ -35,7 +35,7 @@ fn one_setup(b: &Bench) -> bool
 }
 
 // Not malformed, for a setup that is admitted: the four parts have it, and each is as it should be.
-pub fn formed(b: &Bench) -> bool
+pub(crate) fn formed(b: &Bench) -> bool
     requires { FitSetup b.now.sender.setup }
     ensures { result ≡ formed_bench wrapped b.now.sender.setup b.now }
 {
@@ -46,14 +46,14 @@ pub fn formed(b: &Bench) -> bool
             & channel::inner::formed(&b.acks)
 }
 
-pub fn accept(b: &mut Bench, unit: u64) -> Result<(), Refusal>
+pub(crate) fn accept(b: &mut Bench, unit: u64) -> Result<(), Refusal>
     requires { FitBench b.old }
     ensures { Does (act (wrapped b.old.sender.setup) b.old.sender.setup (accept unit) b.old) result b.new }
 {
     sender::inner::accept(&mut b.sender, unit)
 }
 
-pub fn send(b: &mut Bench, k: u64) -> Result<(), Refusal>
+pub(crate) fn send(b: &mut Bench, k: u64) -> Result<(), Refusal>
     requires { FitBench b.old }
     ensures { Does (act (wrapped b.old.sender.setup) b.old.sender.setup (send k) b.old) result b.new }
 {
@@ -62,7 +62,7 @@ pub fn send(b: &mut Bench, k: u64) -> Result<(), Refusal>
 }
 
 // A packet that is found is gone from its channel, whatever the receiver answers.
-pub fn data(b: &mut Bench, j: u64, row: &mut [u64]) -> Result<usize, Refusal>
+pub(crate) fn data(b: &mut Bench, j: u64, row: &mut [u64]) -> Result<usize, Refusal>
     requires { FitBench b.old }
     ensures { Counts (act (wrapped b.old.sender.setup) b.old.sender.setup (arrive j (length row.old)) b.old) result b.new row.old row.new }
 {
@@ -73,14 +73,14 @@ pub fn data(b: &mut Bench, j: u64, row: &mut [u64]) -> Result<usize, Refusal>
     receiver::inner::data(&mut b.receiver, p, row)
 }
 
-pub fn room(b: &mut Bench) -> Result<(), Refusal>
+pub(crate) fn room(b: &mut Bench) -> Result<(), Refusal>
     requires { FitBench b.old }
     ensures { Does (act (wrapped b.old.sender.setup) b.old.sender.setup room b.old) result b.new }
 {
     receiver::inner::room(&mut b.receiver)
 }
 
-pub fn ack(b: &mut Bench) -> Result<(), Refusal>
+pub(crate) fn ack(b: &mut Bench) -> Result<(), Refusal>
     requires { FitBench b.old }
     ensures { Does (act (wrapped b.old.sender.setup) b.old.sender.setup acknowledge b.old) result b.new }
 {
@@ -89,7 +89,7 @@ pub fn ack(b: &mut Bench) -> Result<(), Refusal>
 }
 
 // An acknowledgement that is found is gone from its channel, whatever the sender answers.
-pub fn hear(b: &mut Bench, j: u64) -> Result<(), Refusal>
+pub(crate) fn hear(b: &mut Bench, j: u64) -> Result<(), Refusal>
     requires { FitBench b.old }
     ensures { Does (act (wrapped b.old.sender.setup) b.old.sender.setup (hear j) b.old) result b.new }
 {
@@ -98,35 +98,35 @@ pub fn hear(b: &mut Bench, j: u64) -> Result<(), Refusal>
 }
 
 // Two names for each fault, one of each channel, as the events have them; the work is the one of `channel`.
-pub fn dropd(b: &mut Bench, j: u64) -> Result<(), Refusal>
+pub(crate) fn dropd(b: &mut Bench, j: u64) -> Result<(), Refusal>
     requires { FitBench b.old }
     ensures { Does (act (wrapped b.old.sender.setup) b.old.sender.setup (dropd j) b.old) result b.new }
 {
     channel::inner::drop(&mut b.datas, j)
 }
 
-pub fn dropa(b: &mut Bench, j: u64) -> Result<(), Refusal>
+pub(crate) fn dropa(b: &mut Bench, j: u64) -> Result<(), Refusal>
     requires { FitBench b.old }
     ensures { Does (act (wrapped b.old.sender.setup) b.old.sender.setup (dropa j) b.old) result b.new }
 {
     channel::inner::drop(&mut b.acks, j)
 }
 
-pub fn dupd(b: &mut Bench, j: u64) -> Result<(), Refusal>
+pub(crate) fn dupd(b: &mut Bench, j: u64) -> Result<(), Refusal>
     requires { FitBench b.old }
     ensures { Does (act (wrapped b.old.sender.setup) b.old.sender.setup (dupd j) b.old) result b.new }
 {
     channel::inner::duplicate(&mut b.datas, j)
 }
 
-pub fn dupa(b: &mut Bench, j: u64) -> Result<(), Refusal>
+pub(crate) fn dupa(b: &mut Bench, j: u64) -> Result<(), Refusal>
     requires { FitBench b.old }
     ensures { Does (act (wrapped b.old.sender.setup) b.old.sender.setup (dupa j) b.old) result b.new }
 {
     channel::inner::duplicate(&mut b.acks, j)
 }
 
-pub fn tick(b: &mut Bench)
+pub(crate) fn tick(b: &mut Bench)
     requires { FitBench b.old }
     ensures { b.new ≡ (act (wrapped b.old.sender.setup) b.old.sender.setup tick b.old).state }
 {
