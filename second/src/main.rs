@@ -16,8 +16,8 @@ usage:
       listing of the script on standard input; by the rules on whole numbers;
       with the malformed test at every event
   second make SEED [KIND]
-      the random script of a seed; KIND is useful, tight, refusals, damaged
-      or limits, and without it the seed decides
+      the random script of a seed; KIND is useful, tight, refusals, damaged,
+      limits or noise, and without it the seed decides
   second agree FROM COUNT
       runs COUNT seeds from FROM on wrapped and on whole numbers
   second compare PROGRAM FROM COUNT [--verbose]

@@ -1,9 +1,21 @@
-// What C and Rust call, as a static library: functions on numbers and slices alone. include/escarpoll.h says the same in C.
+// What C and Rust call, as a static library: functions on numbers and slices. include/escarpoll.h says the same in C.
 // None has a `requires`, so a caller owes nothing but slices that are there.
 #![tactic(auto)]
 
 ghost use Rattle.std.specs.Prelude.{◌≡◌};
+ghost use Rattle.listing.specs.Fitting.{Wrote};
 ghost use Rattle.soak.specs.Run.{soaked};
+
+// The listing of a script, written into `out` from its start; gives how many bytes were written. Where the row is too short these are
+// the lines that fit whole, and `whole` is set to false. Places past them stay.
+#[unsafe(no_mangle)]
+pub extern "C" fn escarpoll_listing(script: &[u8], out: &mut [u8], whole: &mut bool) -> usize
+    ensures { Wrote script.now out.old out.new (record { len = result; whole = whole.new }) }
+{
+    let written = listing::write(script, out);
+    *whole = written.whole;
+    written.len
+}
 
 // The checksum of a long run from a fresh bench, with the test of the state at each event.
 #[unsafe(no_mangle)]

@@ -8,11 +8,13 @@
 //! - tight: the same on setups exactly at the bounds, or one step outside;
 //! - refusals: every refusal that a script can meet, again and again;
 //! - damaged: text that is broken in one to three places;
-//! - limits: scripts about as long as a script may be.
+//! - limits: scripts about as long as a script may be;
+//! - noise: any bytes.
 
 mod damaged;
 mod driver;
 mod limits;
+mod noise;
 mod refusals;
 mod setups;
 mod tight;
@@ -28,15 +30,17 @@ pub enum Kind {
     Refusals,
     Damaged,
     Limits,
+    Noise,
 }
 
 /// Every kind with its name and how often a seed has it, in a hundred.
-const KINDS: [(u64, Kind, &str); 5] = [
+const KINDS: [(u64, Kind, &str); 6] = [
     (28, Kind::Useful, "useful"),
     (22, Kind::Tight, "tight"),
     (18, Kind::Refusals, "refusals"),
-    (28, Kind::Damaged, "damaged"),
+    (22, Kind::Damaged, "damaged"),
     (4, Kind::Limits, "limits"),
+    (6, Kind::Noise, "noise"),
 ];
 
 impl Kind {
@@ -70,5 +74,6 @@ pub fn script(seed: u64, kind: Kind) -> Vec<u8> {
         Kind::Refusals => refusals::script(random),
         Kind::Damaged => damaged::script(random),
         Kind::Limits => limits::script(random),
+        Kind::Noise => noise::script(random),
     }
 }

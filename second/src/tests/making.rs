@@ -5,12 +5,13 @@ use super::{listed, text};
 use crate::makers::{script, Kind};
 use crate::random::Random;
 
-const KINDS: [Kind; 5] = [
+const KINDS: [Kind; 6] = [
     Kind::Useful,
     Kind::Tight,
     Kind::Refusals,
     Kind::Damaged,
     Kind::Limits,
+    Kind::Noise,
 ];
 
 #[test]
@@ -86,4 +87,18 @@ fn scripts_that_are_not_damaged_are_plain_text() {
     for kind in [Kind::Useful, Kind::Tight, Kind::Refusals, Kind::Limits] {
         assert!(text(script(3, kind)).starts_with("window="));
     }
+}
+
+#[test]
+fn noise_comes_out_in_every_way() {
+    let listings: Vec<String> = (0..200)
+        .map(|seed| listed(&script(seed, Kind::Noise)))
+        .collect();
+    let some = |test: fn(&str) -> bool| listings.iter().any(|listing| test(listing));
+    assert!(some(|listing| listing == "bad input\n"));
+    assert!(some(|listing| listing == "bad line 1\n"));
+    assert!(some(|listing| listing == "setup 0\nbad line 9\n"));
+    assert!(some(
+        |listing| listing.starts_with("setup 0\n1 ") && listing.contains("bad line")
+    ));
 }
