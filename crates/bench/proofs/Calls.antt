@@ -1,5 +1,5 @@
--- What the caller sees of the bench's operations is the run on whole numbers: by the contracts it is the run on wrapped numbers,
--- and the two agree.
+-- What the caller sees of the bench's operations is the run on whole numbers, and so is the bench: by the contracts they are those of
+-- the run on wrapped numbers, and the two runs agree.
 use Rattle.std.specs.Prelude.{◌≡◌, ℕ, Bool, true, false, cond, eqb, List, [], ◌∷◌, map, length, take, drop, Ok, Err}
 use mathlib.Core.Path.{refl, sym, ◌∙◌, ap, ap₂}
 use native.Mathlib.Omega.{arith}
@@ -14,11 +14,11 @@ use Rattle.rules.specs.Setups.{admitted, zero_setup}
 use Rattle.rules.specs.Parts.{fresh_bench}
 use Rattle.rules.specs.Events.{Out, refused}
 use Rattle.rules.specs.Operations.{begun, step, returned, counted}
-use Rattle.rules.specs.Runs.{said, run}
+use Rattle.rules.specs.Runs.{said, run, final}
 use Rattle.rules.proofs.Refusals.{step_known, answer_counted}
 use Rattle.rules.proofs.Benches.{step_quiet, step_refused}
 use Rattle.rules.proofs.Agreement.Theorem.{agreement}
-use Rattle.bench.specs.Calls.{Given, state_of, count_of, at_count_0, Call, Allowed, Calls, done, call, seen, CallsAgree, OthersCountNone}
+use Rattle.bench.specs.Calls.{Given, state_of, count_of, at_count_0, Call, Allowed, Calls, done, call, seen, events_of, left_by, AllCallsAgree, OthersCountNone}
 
 -- ---- what the caller finds in a result
 module _ (o : Out Bench) where
@@ -47,13 +47,19 @@ call_seen {b} {c} a =
     ∙ ap₂ (λ (n : ℕ) (us : List ℕ). record { answer = n; units = us }) (answer_counted o (step_known wrapped c.event b))
     (units_counted o (step_refused wrapped c.event b) c.before)
 
-calls_seen : {b : Bench} {cs : List Call} → Calls b cs → map seen cs ≡ run wrapped (map (λ (c : Call). c.event) cs) b
+-- the next call is on the bench of the event
+next_of : {b : Bench} {c : Call} → Allowed b c → state_of c.given ≡ (step wrapped c.event b).state
+next_of {b} {c} a = ap state_of a.gives ∙ state_counted (step wrapped c.event b)
+
+calls_seen : {b : Bench} {cs : List Call} → Calls b cs → map seen cs ≡ run wrapped (events_of cs) b
 unfolding run
 calls_seen done = refl
-calls_seen {b} (call {c = c} {cs = cs} a rest) =
-    ap₂ ◌∷◌ (call_seen a)
-    (calls_seen rest
-    ∙ ap (run wrapped (map (λ (c : Call). c.event) cs)) (ap state_of a.gives ∙ state_counted (step wrapped c.event b)))
+calls_seen (call {cs = cs} a rest) = ap₂ ◌∷◌ (call_seen a) (calls_seen rest ∙ ap (run wrapped (events_of cs)) (next_of a))
+
+calls_left : {b : Bench} {cs : List Call} → Calls b cs → left_by b cs ≡ final wrapped (events_of cs) b
+unfolding final
+calls_left done = refl
+calls_left (call {cs = cs} a rest) = calls_left rest ∙ ap (final wrapped (events_of cs)) (next_of a)
 
 -- a bench that was given says that the setup is admitted
 started : (S : Setup) (b : Bench) → Ok b ≡ returned (begun fresh_bench S) → (admitted S ≡ true) × (b ≡ fresh_bench S)
@@ -65,12 +71,18 @@ started S b h = go (admitted S) refl h
     go true e h = (e, cc)
     go false e h = absurd (cc)
 
-pub calls_agree : CallsAgree
+pub calls_agree : AllCallsAgree
 calls_agree S b e cs calls =
     let s = started S b e in
-    calls_seen calls
-    ∙ ap (run wrapped (map (λ (c : Call). c.event) cs)) s.1
-    ∙ (agreement S s.0 (map (λ (c : Call). c.event) cs)).answers
+    let a = agreement S s.0 (events_of cs) in
+    let w = calls_seen calls ∙ ap (run wrapped (events_of cs)) s.1 in
+    record {
+      answers = w ∙ a.answers;
+      state = calls_left calls ∙ ap (final wrapped (events_of cs)) s.1 ∙ a.state;
+      prefix = rw w a.prefix;
+      order = a.order;
+      never = rw w a.never;
+    }
 
 pub others_count_none : OthersCountNone
 others_count_none e n b =

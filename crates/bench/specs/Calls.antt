@@ -1,6 +1,7 @@
 -- Calls of the bench's operations, one after the other, as their contracts allow them; and what the theorem of agreement says of
--- them: whoever calls the operations on a bench that `fresh` gave sees, call by call, what the run on whole numbers answers.
-use Rattle.std.specs.Prelude.{◌≡◌, ℕ, List, [], ◌∷◌, map, length, take, Result, Ok, Err}
+-- them: whoever calls the operations on a bench that `fresh` gave sees, call by call, what the run on whole numbers answers, and has
+-- the bench of that run, shown round its ranges.
+use Rattle.std.specs.Prelude.{◌≡◌, true, ℕ, List, [], ◌∷◌, map, length, take, Result, Ok, Err}
 use Rattle.rules.specs.declared.Setup.{Setup}
 use Rattle.rules.specs.declared.Bench.{Bench}
 use Rattle.rules.specs.declared.Refused.{Refused}
@@ -10,7 +11,9 @@ use Rattle.rules.specs.Rows.{laid}
 use Rattle.rules.specs.Parts.{fresh_bench}
 use Rattle.rules.specs.Events.{Event, accept, send, arrive, room, acknowledge, hear, dropd, dropa, dupd, dupa, tick}
 use Rattle.rules.specs.Operations.{begun, step, returned, counted}
-use Rattle.rules.specs.Runs.{Said, run}
+use Rattle.rules.specs.Runs.{Said, run, final, accepted, delivered}
+use Rattle.rules.specs.Malformed.{every}
+use Rattle.rules.specs.Agreement.{wrap, Ordered, proper}
 
 -- ---- what an operation gives back: the bench, done or refused, and the count of the units that stand in the row
 abbrev pub Given : Type 0
@@ -66,12 +69,30 @@ pub data Calls : Bench → List Call → Type 0 where
 abbrev pub seen : Call → Said
 seen c = record { answer = answer_of c.given; units = take (count_of c.given) c.after }
 
--- the code's own agreement: after a `fresh` that gave a bench, every sequence of calls is seen as the run on whole numbers
-abbrev pub CallsAgree : Type 0
-CallsAgree =
-    (S : Setup) (b : Bench) → Ok b ≡ returned (begun fresh_bench S)
-    → (cs : List Call) → Calls b cs
-    → map seen cs ≡ run whole (map (λ (c : Call). c.event) cs) (fresh_bench S)
+-- the events of the calls, and the bench that the last of them gave back
+abbrev pub events_of : List Call → List Event
+events_of cs = map (λ (c : Call). c.event) cs
+
+abbrev pub left_by : Bench → List Call → Bench
+left_by b [] = b
+left_by b (c ∷ cs) = left_by (state_of c.given) cs
+
+-- ---- the code's own agreement, of the calls cs on the bench b that `fresh` gave
+pub record CallsAgree (S : Setup) (b : Bench) (cs : List Call) : Type 0 where
+  -- the caller sees the answers and units of the run on whole numbers
+  pub answers : map seen cs ≡ run whole (events_of cs) (fresh_bench S)
+  -- the bench is that run's, each number mod NS and each clock value mod NC
+  pub state : left_by b cs ≡ wrap S (final whole (events_of cs) (fresh_bench S))
+  -- the delivered units, joined, are the first so many of the accepted ones, in order
+  pub prefix : delivered (map seen cs) ≡ take (length (delivered (map seen cs))) (accepted (events_of cs) (map seen cs))
+  -- una ≤ nxt ≤ una + outstanding ≤ una + granted
+  pub order : Ordered (final whole (events_of cs) (fresh_bench S))
+  -- no call is answered 2 or 11
+  pub never : every proper (map seen cs) ≡ true
+
+-- after a `fresh` that gave a bench, of every sequence of calls
+abbrev pub AllCallsAgree : Type 0
+AllCallsAgree = (S : Setup) (b : Bench) → Ok b ≡ returned (begun fresh_bench S) → (cs : List Call) → Calls b cs → CallsAgree S b cs
 
 -- so it speaks of `accept` to `tick` too: each event but an arrival gives, with the count, what it gives without, at count 0; and
 -- the row stays

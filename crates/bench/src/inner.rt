@@ -6,12 +6,11 @@
 ghost use Rattle.std.specs.Prelude.{◌≡◌, length};
 ghost use Rattle.rules.specs.Numbers.{wrapped};
 ghost use Rattle.rules.specs.Parts.{fresh_bench};
-ghost use Rattle.rules.specs.Malformed.{formed_bench};
+ghost use Rattle.rules.specs.Malformed.{same_setups, formed_bench};
 ghost use Rattle.rules.specs.Fit.{FitSetup, FitBench};
 ghost use Rattle.rules.specs.Events.{accept, send, arrive, room, acknowledge, hear, dropd, dropa, dupd, dupa, tick, act};
 ghost use Rattle.rules.specs.Asked.{event_of};
 ghost use Rattle.rules.specs.Operations.{Does, Counts};
-ghost use Rattle.bench.specs.Parts.{same_setups};
 
 use rules::{Bench, Event, Refusal, Setup};
 
@@ -28,7 +27,7 @@ pub fn first(s: Setup) -> Bench
 
 // The four parts have one setup.
 fn one_setup(b: &Bench) -> bool
-    ensures { result ≡ same_setups b.now }
+    ensures { result ≡ same_setups b.now.sender.setup b.now }
 {
     let s = b.sender.setup;
     (s == b.receiver.setup) & (s == b.datas.setup) & (s == b.acks.setup)

@@ -10,10 +10,9 @@ use Rattle.rules.specs.declared.Channel.{Channel}
 use Rattle.rules.specs.Setups.{◌also◌}
 use Rattle.rules.specs.Parts.{Kind, kind}
 use Rattle.rules.specs.Malformed.{every, formed_channel}
-use Rattle.rules.specs.Rows.{closed}
 use Rattle.rules.specs.Fit.{FitChannel}
 use Rattle.rules.specs.Events.{removed}
-use Rattle.rules.proofs.Rows.{passed_all, length_closed, closed_last}
+use Rattle.rules.proofs.Rows.{closed, passed_all, length_closed, closed_last}
 use Rattle.rules.proofs.Channels.{length_packets, packets_removed, length_removed}
 
 -- ---- what follows j moved down one place, and the last of n + 1 places written

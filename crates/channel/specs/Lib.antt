@@ -1,4 +1,3 @@
-pub mod Pushing
 pub mod One
 pub mod OneData
 pub mod OneAck

@@ -5,10 +5,9 @@ ghost use Rattle.std.specs.Prelude.{◌≡◌, ◌+◌, ◌<◌, Ok, Err};
 ghost use Rattle.rules.specs.Refusals.{refusal};
 ghost use Rattle.rules.specs.Parts.{kind, fresh_channel};
 ghost use Rattle.rules.specs.Malformed.{every, formed_aged, formed_channel};
-ghost use Rattle.rules.specs.Fit.{FitSetup, FitChannel};
-ghost use Rattle.rules.specs.Events.{may_find, adding, taking, dropping, copying, removed, ticked_channel};
+ghost use Rattle.rules.specs.Fit.{FitChannel};
+ghost use Rattle.rules.specs.Events.{may_find, pushing, adding, taking, dropping, copying, removed, ticked_channel};
 ghost use Rattle.rules.specs.Operations.{Does, Makes};
-ghost use Rattle.channel.specs.Pushing.{pushing};
 
 use numbers::packet::Packet;
 use rules::{Aged, Channel, Refusal, Setup};
@@ -121,7 +120,6 @@ fn remove<P: Packet>(c: &mut Channel<P>, j: usize)
 // Not malformed, for a setup that is admitted.
 #[tactic(auto, using(rules::proofs::Channels::formed_many, crate::proofs::Places::formed_by_parts))]
 pub fn formed<P: Packet>(c: &Channel<P>) -> bool
-    requires { FitSetup c.now.setup }
     ensures { result ≡ formed_channel (kind P.none P.is_none) (formed_aged (P.right c.now.setup) c.now.setup.life) c.now }
 {
     if 32 < c.count {
@@ -132,7 +130,6 @@ pub fn formed<P: Packet>(c: &Channel<P>) -> bool
 }
 
 fn all_formed<P: Packet>(s: Setup, packets: &[Aged<P>]) -> bool
-    requires { FitSetup s }
     ensures { result ≡ every (formed_aged (P.right s) s.life) packets.now }
 {
     packets

@@ -1,6 +1,8 @@
 -- Laws of sizes and of wrapped sums and differences, over any range: what 32 bits wrap, a range of 2 to the power b wraps too.
-use Rattle.std.proofs.Common.{◌≡◌, ℕ, ◌+◌, ◌-◌, ◌*◌, ◌%◌, ◌^◌, ◌<◌, ◌≤◌, suc, lt_of_lt_of_le, mod-lt, sym, ap, ◌∙◌, one-mul, arith, pow_pos, pow_mono, pow-add, shl_exact}
+use Rattle.std.proofs.Common.{◌≡◌, ℕ, true, ◌+◌, ◌-◌, ◌*◌, ◌%◌, ◌^◌, ◌<◌, ◌≤◌, suc, lt_of_lt_of_le, mod-lt, sym, ap, ◌∙◌, one-mul, arith, pow_pos, pow_mono, pow-add, shl_exact}
 use Rattle.std.proofs.Math.Nat.{mul-add-mod_self_right, suc-mul, mod-mod_of_dvd, dvd-mul_left}
+use borrow.Author.Tests.{lt-ltb}
+use Rattle.std.specs.Prelude.{nat_lt}
 use Rattle.rules.specs.Numbers.{dist}
 
 -- a bit shifted to a place of the word
@@ -23,3 +25,7 @@ divides b h =
 
 pub rem_fits : (x b : ℕ) → b ≤ 32 → x % 2 ^ b < 2 ^ 32
 rem_fits x b h = lt_of_lt_of_le (mod-lt x (pow_pos b)) (pow_mono h)
+
+-- a number of 32 bits is below any larger power
+pub below_wide : (x b : ℕ) → x < 2 ^ 32 → 32 ≤ b → true ≡ nat_lt x (2 ^ b)
+below_wide x b h k = sym (lt-ltb x (2 ^ b) (lt_of_lt_of_le h (pow_mono k)))

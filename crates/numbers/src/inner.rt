@@ -31,7 +31,7 @@ impl Range {
     pub fn contains(self, x: u32) -> bool
         ensures { result ≡ nat_lt x (2 ^ self.bits) }
     {
-        (x as u64) < self.size()
+        in_bits(self.bits, x)
     }
 
     // a - b round the range.
@@ -50,6 +50,17 @@ impl Range {
         let d = a.wrapping_add(k);
         ((d as u64) % self.size()) as u32
     }
+}
+
+// The number is below 2 to the power `bits`, whatever the bits: from 32 on each number is.
+#[tactic(auto, using(crate::proofs::Laws::below_wide))]
+pub fn in_bits(bits: u32, x: u32) -> bool
+    ensures { result ≡ nat_lt x (2 ^ bits) }
+{
+    if 32 <= bits {
+        return true;
+    }
+    (x as u64) < 1u64 << bits
 }
 
 // The slots of a window: a number's slot is its remainder.

@@ -1,12 +1,12 @@
 // Packets as they are handed over, of either kind.
-ghost use Rattle.std.specs.Prelude.{◌≡◌, ◌≤◌, Bool, true};
+ghost use Rattle.std.specs.Prelude.{◌≡◌, Bool, true};
 ghost use Rattle.rules.specs.declared.Setup.{Setup};
 ghost use Rattle.rules.specs.Numbers.{wrapped};
 ghost use Rattle.rules.specs.Parts.{no_data, no_ack, is_no_data, is_no_ack};
 ghost use Rattle.rules.specs.Malformed.{right_data, right_ack};
 ghost use Rattle.rules.proofs.Fits.{no_data_is, no_ack_is};
 
-use crate::inner::Range;
+use crate::inner::in_bits;
 use rules::{BareAck, BareData, Setup};
 
 // What a channel and an end ask of a packet. No bounds `Default` and `PartialEq` in place of the first two functions: at a bound, equal
@@ -25,9 +25,8 @@ pub trait Packet: Clone + Copy {
     fn is_nothing(self) -> bool
         ensures { result ≡ is_none self };
 
-    // Each field is in its range. The bits are a `requires`: the setup is a public value, and the ranges are made in here.
+    // Each field is in its range.
     fn in_range(self, s: Setup) -> bool
-        requires { (s.seqbits ≤ 32) × (s.clockbits ≤ 32) }
         ensures { result ≡ right s self };
 
     ghost only_none: { (p : Self) → is_none p ≡ true → p ≡ none };
@@ -51,7 +50,7 @@ impl Packet for BareData {
     }
 
     fn in_range(self, s: Setup) -> bool {
-        Range::new(s.seqbits).contains(self.seq) & Range::new(s.clockbits).contains(self.stamp)
+        in_bits(s.seqbits, self.seq) & in_bits(s.clockbits, self.stamp)
     }
 }
 
@@ -73,8 +72,6 @@ impl Packet for BareAck {
     }
 
     fn in_range(self, s: Setup) -> bool {
-        Range::new(s.seqbits).contains(self.ack)
-            & (self.window <= s.window)
-            & Range::new(s.clockbits).contains(self.stamp)
+        in_bits(s.seqbits, self.ack) & (self.window <= s.window) & in_bits(s.clockbits, self.stamp)
     }
 }

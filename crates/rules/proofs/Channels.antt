@@ -10,12 +10,12 @@ use borrow.Author.Tests.{lt-leb}
 use Rattle.rules.specs.declared.Channel.{Channel}
 use Rattle.rules.specs.declared.Setup.{Setup}
 use Rattle.rules.specs.Setups.{◌also◌}
-use Rattle.rules.specs.Rows.{row, remove, closed}
+use Rattle.rules.specs.Rows.{row, remove}
 use Rattle.rules.specs.Parts.{Kind, live, kind}
 use Rattle.rules.specs.Malformed.{formed_channel, malformed_channel}
 use Rattle.rules.specs.Fit.{FitSetup, FitChannel}
 use Rattle.rules.proofs.Tests.{both, passes}
-use Rattle.rules.proofs.Rows.{row_added, row_removed, length_row, length_remove}
+use Rattle.rules.proofs.Rows.{closed, row_added, row_removed, length_row, length_remove}
 use Rattle.rules.proofs.Fits.{limits, fit_setup, fit_kind}
 
 -- an empty place

@@ -8,8 +8,6 @@ pub mod Fits
 pub mod Channels
 pub mod Benches
 pub mod Ends
-pub mod Session
-pub mod Examples
 pub mod Tight
 pub mod Refusals
 pub mod Agreement

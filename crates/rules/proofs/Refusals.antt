@@ -1,14 +1,18 @@
--- The numbers of the refusals: each number from 1 to 13 is its refusal's, and no event is answered by another. So what a caller reads
--- off a result is the rule's answer.
+-- The numbers of the refusals: each number from 1 to 13 is its refusal's, and no operation answers by another. So what a caller reads
+-- off a result is the rule's answer, as specs/Answers.antt states.
 use Rattle.std.specs.Prelude.{◌≡◌, Bool, true, false, cond, ℕ, ◌≤◌}
 use native.Mathlib.Omega.{arith}
 use Rattle.rules.specs.declared.Setup.{Setup}
 use Rattle.rules.specs.declared.Bench.{Bench}
+use Rattle.rules.specs.declared.Sender.{Sender}
+use Rattle.rules.specs.declared.Receiver.{Receiver}
 use Rattle.rules.specs.Numbers.{Arith}
 use Rattle.rules.specs.Refusals.{number, refusal, answer_of}
 use Rattle.rules.specs.Malformed.{malformed_bench}
-use Rattle.rules.specs.Events.{Out, refused, Event, accept, send, arrive, room, acknowledge, hear, dropd, dropa, dupd, dupa, tick, act}
-use Rattle.rules.specs.Operations.{returned, counted, step}
+use Rattle.rules.specs.Events.{Out, Made, refused, Event, accept, send, arrive, room, acknowledge, hear, dropd, dropa, dupd, dupa, tick, act}
+use Rattle.rules.specs.Parts.{Kind}
+use Rattle.rules.specs.Operations.{returned, counted, begun, sender_accept, sender_send, sender_hear, sender_tick, receiver_data, receiver_room, receiver_ack, receiver_tick, channel_add, channel_take, channel_drop, channel_duplicate, channel_tick, step}
+use Rattle.rules.specs.Answers.{Read, ReadMade, SenderRead, ReceiverRead, ChannelRead, Answers}
 
 pub number_refusal : (n : ℕ) → 1 ≤ n → n ≤ 13 → number (refusal n) ≡ n
 number_refusal n lo hi = grind arith
@@ -47,3 +51,48 @@ module _ {X : Type 0} (o : Out X) (k : Known o) where
 
   pub answer_counted : answer_of (counted o) ≡ o.answer
   answer_counted = grind (arith, number_refusal)
+
+read : {X : Type 0} (o : Out X) → Known o → Read o
+read o k = record { known = k; of_returned = answer_returned o k; of_counted = answer_counted o k }
+
+read_made : {H X : Type 0} (m : Made H X) → m.answer ≤ 13 → ReadMade m
+read_made m k = record { known = k; of_made = grind (arith, number_refusal) }
+
+-- ---- each operation
+sender_read : (s : Sender) → SenderRead s
+sender_read s = record {
+  accept = λ u. read (sender_accept s u) (grind arith);
+  send = λ k. read_made (sender_send s k) (grind arith);
+  hear = λ p. read (sender_hear s p) (grind arith);
+  tick = read (sender_tick s) (grind arith);
+}
+
+receiver_read : (r : Receiver) → ReceiverRead r
+receiver_read r = record {
+  arrive = λ p n. read (receiver_data r p n) (grind arith);
+  room = read (receiver_room r) (grind arith);
+  ack = read_made (receiver_ack r) (grind arith);
+  tick = read (receiver_tick r) (grind arith);
+}
+
+channel_read : {H P C : Type 0} (K : Kind H P C) (malformed : C → Bool) (c : C) → ChannelRead K malformed c
+channel_read K malformed c = record {
+  add = λ right p. read (channel_add K malformed c right p) (grind arith);
+  take = λ j. read_made (channel_take K malformed c j) (grind arith);
+  drop = λ j. read (channel_drop K malformed c j) (grind arith);
+  duplicate = λ j. read (channel_duplicate K malformed c j) (grind arith);
+  tick = λ L. read (channel_tick K malformed c L) (grind arith);
+}
+
+fresh_read : {X : Type 0} (fresh : Setup → X) (S : Setup) → Read (begun fresh S)
+fresh_read fresh S = read (begun fresh S) (grind arith)
+
+pub answers : Answers
+answers = record {
+  refusals = number_refusal;
+  fresh = fresh_read;
+  sender = sender_read;
+  receiver = receiver_read;
+  channel = channel_read;
+  bench = λ A e b. read (step A e b) (step_known A e b);
+}

@@ -9,7 +9,7 @@ use lib.Dec.{leb}
 use lib.ListN.{length, get_or, take, drop, set, replicate, length-set, length-append, length-take, length-drop, length-replicate}
 use lib.Seq.{take-suc, take-suc-set, drop-set-lt, drop-drop, take_all, length-take-le, get_or-append-add, get_or-append_seam, take-append_seam}
 use borrow.Author.Tests.{le-leb, lt-leb}
-use Rattle.rules.specs.Rows.{row, remove, closed, aged}
+use Rattle.rules.specs.Rows.{row, remove, aged}
 
 -- ---- a loop that writes a list from the front on: what is passed is the result's, what is not is the old list's
 module _ {A : Type 0} (d : A) where
@@ -28,7 +28,10 @@ module _ {A : Type 0} (d : A) where
       sym (take_all (n + 1) (set out n v) (omega (arith, length-set out n v)))
       ∙ passed_more out r n v (omega arith) (omega arith) e ev ∙ take_all (n + 1) r (omega arith)
 
--- ---- an array with a gap closed
+-- ---- an array without its element at j: the gap is closed, and an empty place stands at the end
+unfoldable pub closed : {A : Type 0} → A → List A → ℕ → List A
+closed z ps j = take j ps ++ (drop (suc j) ps ++ z ∷ [])
+
 module _ {A : Type 0} (z : A) (ps : List A) (j : ℕ) (h : j < length ps) where
   pub length_closed : length (closed z ps j) ≡ length ps
   unfolding closed

@@ -1,5 +1,5 @@
 -- The wrapped comparison, proved once over the range's size: differences round a range of N values, and the true difference that
--- they show. Sequence numbers and clocks both cite it.
+-- they show. Sequence numbers and clocks both cite it; specs/Wrap.antt states it.
 use mathlib.Core.Path.{◌≡◌, sym, ◌∙◌}
 use Prim.Native.Nat.{ℕ, suc, ◌+◌, ◌-◌, ◌*◌, ◌/◌, ◌%◌, ◌≤◌, ◌<◌}
 use native.Mathlib.Nat.{mod-add-mod, mod-eq_of_lt, add-mul-mod_self_right, div-add-mod', mod-lt}
@@ -8,6 +8,7 @@ use native.Mathlib.Decide.{dec_le, dec_lt}
 use lib.Dec.{leb, ltb}
 use lib.IntN.{pos, sub_ℕ}
 use Rattle.rules.specs.Numbers.{dist, Place, behind, ahead, place}
+use Rattle.rules.specs.Wrap.{Comparison}
 use borrow.Author.Tests.{le-leb, lt-leb, lt-ltb, le-ltb}
 
 -- dist of two wrapped numbers, from any way to write a + N − b%N as r plus a multiple of N
@@ -38,6 +39,9 @@ module _ (N K a b : ℕ) (k : K ≤ N) (hi : a < b + K) (lo : b + K ≤ a + N) w
       by : Dec (b ≤ a) → place K (pos (dist N (a % N) (b % N))) ≡ place K (sub_ℕ a b)
       by (yes h) = rw (dist_ahead N a b h (omega arith), le-ltb a b h)
       by (no h) = rw (below_agree, lt-leb b a (omega arith), lt-ltb a b (omega arith))
+
+pub comparison : Comparison
+comparison N K a b k hi lo = record { below = below_agree N K a b k hi lo; seen = place_agree N K a b k hi lo }
 
 -- what the true place says
 pub data View (K a b : ℕ) : Place → Type 0 where

@@ -1,4 +1,4 @@
--- The events, in document 01's order. A test `may-..` goes through an event's refusals in their order; it is handed what to make
+-- The events, in document 01's order. A test `may_…` goes through an event's refusals in their order; it is handed what to make
 -- of a refusal's number (`refuse`) and of an event that goes on (`go`). The event itself, as `accepting`, is its test and its
 -- effect on the end or the channel that it concerns; the bench applies it to that part.
 use Rattle.std.specs.Prelude.{Bool, true, cond, List, [], ◌∷◌, ◌++◌, ℕ, zero, suc, ◌+◌, ◌-◌, ◌%◌, max, leb, ltb, eqb, length, get_or, set}
@@ -225,9 +225,13 @@ module _ {H P C : Type 0} (K : Kind H P C) where
   abbrev pub packet_at : ℕ → C → P
   packet_at j c = get_or (live K c) j (K.new K.nothing)
 
-  -- at the end, with age 0
+  -- a packet goes to the end
+  abbrev pub pushing : P → C → Out C
+  pushing p c = may_add (K.count c) (refused c) (done (K.fill c (live K c ++ p ∷ [])))
+
+  -- with age 0
   abbrev pub adding : H → C → Out C
-  adding p c = may_add (K.count c) (refused c) (done (K.fill c (live K c ++ K.new p ∷ [])))
+  adding p c = pushing (K.new p) c
 
   abbrev pub removed : ℕ → C → C
   removed j c = K.fill c (remove j (live K c))
@@ -240,11 +244,9 @@ module _ {H P C : Type 0} (K : Kind H P C) where
   abbrev pub dropping : ℕ → C → Out C
   dropping j c = may_find (K.count c) j (refused c) (done (removed j c))
 
-  -- a copy goes to the end and keeps the age
+  -- a copy keeps the age
   abbrev pub copying : ℕ → C → Out C
-  copying j c =
-      may_find (K.count c) j (refused c)
-      (may_add (K.count c) (refused c) (done (K.fill c (live K c ++ packet_at j c ∷ []))))
+  copying j c = may_find (K.count c) j (refused c) (pushing (packet_at j c) c)
 
   abbrev pub ticked_channel : ℕ → C → C
   ticked_channel L c = K.fill c (aged K.age K.older L (live K c))

@@ -9,8 +9,13 @@ pub mod Fit
 pub mod Events
 pub mod Operations
 pub mod Asked
+pub mod Answers
 pub mod One
 pub mod Runs
 pub mod Examples
+pub mod Session
+pub mod Slips
+pub mod Wrap
 pub mod Agreement
+pub mod Tight
 pub mod Reached

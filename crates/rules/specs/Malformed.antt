@@ -88,6 +88,10 @@ unfoldable pub formed_channel : {H P C : Type 0} → Kind H P C → (P → Bool)
 formed_channel K right c =
     leb (K.count c) 32 also every right (live K c) also every K.is_nothing (drop (K.count c) (K.packets c))
 
+-- the three parts beside the sender have the setup S
+abbrev pub same_setups : Setup → Bench → Bool
+same_setups S b = same_setup S b.receiver.setup also same_setup S b.datas.setup also same_setup S b.acks.setup
+
 -- ---- malformed: each part by its own setup; the bench by the one setup of all four
 unfoldable pub malformed_channel : {P : Type 0} → Kind P (Aged P) (Channel P) → (Setup → P → Bool) → Channel P → Bool
 malformed_channel K right c =
@@ -108,9 +112,7 @@ module _ (A : Setup → Arith) where
 
   unfoldable pub formed_bench : Setup → Bench → Bool
   formed_bench S b =
-      same_setup S b.receiver.setup
-      also same_setup S b.datas.setup
-      also same_setup S b.acks.setup
+      same_setups S b
       also formed_sender (A S) S b.sender
       also formed_receiver (A S) S b.receiver
       also formed_channel data_channel (formed_data (A S) S) b.datas

@@ -1,5 +1,5 @@
 -- Lists in rows of places: a channel's 32 places, and the lent row.
-use Rattle.std.specs.Prelude.{cond, List, [], ◌∷◌, ◌++◌, ℕ, zero, suc, ◌-◌, leb, length, take, drop, replicate}
+use Rattle.std.specs.Prelude.{cond, List, [], ◌∷◌, ◌++◌, ℕ, zero, suc, ◌-◌, leb, length, drop, replicate}
 
 -- a list in 32 places: the places past it are empty
 unfoldable pub row : {A : Type 0} → A → List A → List A
@@ -20,7 +20,3 @@ aged age older L (p ∷ l) = cond (leb (suc (age p)) L) (older p ∷ aged age ol
 -- a lent row with us written from its start; the places past them stay
 abbrev pub laid : List ℕ → List ℕ → List ℕ
 laid us r = us ++ drop (length us) r
-
--- an array without its element at j: the gap is closed, and an empty place stands at the end
-unfoldable pub closed : {A : Type 0} → A → List A → ℕ → List A
-closed z ps j = take j ps ++ (drop (suc j) ps ++ z ∷ [])

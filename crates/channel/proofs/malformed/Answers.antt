@@ -3,12 +3,11 @@ use Rattle.std.proofs.Common.{sym, ap, ◌∙◌, rules}
 use Rattle.std.specs.Prelude.{not}
 use Rattle.rules.specs.Setups.{◌also◌}
 use Rattle.rules.specs.Malformed.{malformed_channel}
-use Rattle.rules.proofs.Fits.{limits, fit_setup}
 use Rattle.channel.proofs.malformed.Goals as goal
 use Rattle.channel.proofs.malformed.Goals.{then-admitted, else-admitted}
 
 pub formed-requires : goal.formed-requires
-formed-requires g c = (search rules, fit_setup (limits c.args.c.setup (sym c.admitted.ensures ∙ c.if-admitted.true)))
+formed-requires g c = search rules
 
 pub returns : goal.returns
 unfolding malformed_channel ◌also◌

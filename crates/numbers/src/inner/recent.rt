@@ -1,15 +1,15 @@
 // Recent, the remembered timestamp: tested against, made older, checked.
-// The bits are a `requires`: the setup is a public value, and its range is made in here.
 ghost use Rattle.std.specs.Prelude.{◌≡◌, ◌<◌, ◌≤◌};
 ghost use Rattle.rules.specs.Numbers.{wrapped, NC};
 ghost use Rattle.rules.specs.Parts.{since};
 ghost use Rattle.rules.specs.Malformed.{formed_recent};
 ghost use Rattle.rules.specs.Events.{passed, older};
 
-use super::Range;
+use super::{Range, in_bits};
 use rules::{Recent, Setup};
 
-// The timestamp test: a packet that fails it is stale.
+// The timestamp test: a packet that fails it is stale. The bits are a `requires`: the setup is a public value, and its range is made in
+// here.
 pub fn passes(s: Setup, r: Recent, stamp: u32) -> bool
     requires { (s.clockbits ≤ 32) × (r.stamp < NC s) × (stamp < NC s) }
     ensures { result ≡ passed (wrapped s) r stamp }
@@ -46,11 +46,10 @@ pub fn aged(life: u32, r: Recent) -> Recent
 }
 
 pub fn formed(s: Setup, r: Recent) -> bool
-    requires { s.clockbits ≤ 32 }
     ensures { result ≡ formed_recent (wrapped s) s r }
 {
     if r.held {
-        Range::new(s.clockbits).contains(r.stamp) & (r.age <= s.life)
+        in_bits(s.clockbits, r.stamp) & (r.age <= s.life)
     } else {
         r == Recent::default()
     }

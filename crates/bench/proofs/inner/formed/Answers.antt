@@ -1,16 +1,15 @@
 -- `formed` meets its contract: each part is tested by its own setup, and only where that is the bench's.
-use Rattle.std.proofs.Common.{◌≡◌, true, sym, ◌∙◌, subst, arith}
+use Rattle.std.proofs.Common.{◌≡◌, true, sym, ◌∙◌, subst}
 use Rattle.rules.specs.declared.Bench.{Bench}
 use Rattle.rules.specs.Setups.{◌also◌}
-use Rattle.rules.specs.Malformed.{formed_bench}
+use Rattle.rules.specs.Malformed.{same_setups, formed_bench}
 use Rattle.rules.specs.Fit.{FitSetup}
 use Rattle.rules.proofs.Tests.{both}
 use Rattle.rules.proofs.Fits.{same_is}
-use Rattle.bench.specs.Parts.{same_setups}
 use Rattle.bench.proofs.inner.formed.Goals as goal
 
 -- the setup of each part is the sender's
-one_setup : (b : Bench) → same_setups b ≡ true
+one_setup : (b : Bench) → same_setups b.sender.setup b ≡ true
     → (b.receiver.setup ≡ b.sender.setup) × (b.datas.setup ≡ b.sender.setup) × (b.acks.setup ≡ b.sender.setup)
 one_setup b e =
     let a = both e in let d = both a.0 in (sym (same_is _ _ d.0), sym (same_is _ _ d.1), sym (same_is _ _ a.1))
@@ -18,14 +17,6 @@ one_setup b e =
 pub formed-requires-then-one_setup : goal.formed-requires-then-one_setup
 formed-requires-then-one_setup c =
     let s = one_setup c.args.b.now (sym c.one_setup.ensures ∙ c.if-one_setup.true) in subst FitSetup (sym s.0) c.requires
-
-pub formed-requires-then-one_setup-2 : goal.formed-requires-then-one_setup-2
-formed-requires-then-one_setup-2 c =
-    let s = one_setup c.args.b.now (sym c.one_setup.ensures ∙ c.if-one_setup.true) in (omega arith, subst FitSetup (sym s.1) c.requires)
-
-pub formed-requires-then-one_setup-3 : goal.formed-requires-then-one_setup-3
-formed-requires-then-one_setup-3 c =
-    let s = one_setup c.args.b.now (sym c.one_setup.ensures ∙ c.if-one_setup.true) in (omega arith, subst FitSetup (sym s.2) c.requires)
 
 pub returns-then-one_setup : goal.returns-then-one_setup
 unfolding formed_bench ◌also◌

@@ -6,7 +6,7 @@ use Rattle.numbers.proofs.inner.recent.formed.Goals as goal
 
 pub returns-then-r : goal.returns-then-r
 unfolding formed_recent ◌also◌
-returns-then-r c = rw (c.if-r.true, c.contains.ensures, c.new.ensures)
+returns-then-r c = rw (c.if-r.true, c.in_bits.ensures)
 
 pub returns-else-r : goal.returns-else-r
 unfolding formed_recent ◌also◌

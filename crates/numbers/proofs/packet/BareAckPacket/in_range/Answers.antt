@@ -6,4 +6,4 @@ use Rattle.numbers.proofs.packet.BareAckPacket.in_range.Goals as goal
 
 pub returns : goal.returns
 unfolding right_ack ◌also◌
-returns c = rw (c.contains.ensures, c.contains-2.ensures, c.new.ensures, c.new-2.ensures) refl
+returns c = rw (c.in_bits.ensures, c.in_bits-2.ensures) refl

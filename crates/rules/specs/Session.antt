@@ -1,7 +1,5 @@
--- The session of document 01, run on the rules.
-use mathlib.Core.Path.{◌≡◌, refl}
-use mathlib.Core.List.{List, [], ◌∷◌}
-use Prim.Native.Nat.{ℕ}
+-- A session: sixteen events on a small bench whose numbers go round at once, and what the rules answer. crates/script runs the same one.
+use Rattle.std.specs.Prelude.{◌≡◌, refl, ℕ, List, [], ◌∷◌}
 use Rattle.rules.specs.declared.Setup.{Setup}
 use Rattle.rules.specs.Numbers.{dist, wrapped}
 use Rattle.rules.specs.Setups.{◌also◌, is_window, in_limits, in_ranges, admitted, same_setup}
@@ -21,6 +19,7 @@ events =
     accept 500 ∷ room ∷ room ∷ room ∷ acknowledge ∷ hear 0 ∷ accept 500 ∷ accept 740 ∷ accept 760 ∷ send 1 ∷ send 0 ∷ dupd 1
     ∷ arrive 0 64 ∷ arrive 0 64 ∷ arrive 0 64 ∷ arrive 0 64 ∷ []
 
+-- an answer without units
 abbrev pub only : ℕ → Said
 only n = record { answer = n; units = [] }
 

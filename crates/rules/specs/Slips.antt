@@ -1,9 +1,6 @@
--- Short runs, one for each slip that looks right: what the rules answer where the slip would answer otherwise. (The comparison of
--- timestamps as plain numbers is refused by row (j) of the marked examples.)
-use mathlib.Core.Path.{◌≡◌, refl}
-use mathlib.Core.List.{List, [], ◌∷◌, ◌++◌}
-use Prim.Native.Nat.{ℕ}
-use lib.ListN.{replicate}
+-- Short runs on the session's setup, one for each slip that looks right: what the rules answer where the slip would answer otherwise.
+-- (The comparison of timestamps as plain numbers is refused by row (j) of the marked examples.)
+use Rattle.std.specs.Prelude.{◌≡◌, refl, ℕ, List, [], ◌∷◌, ◌++◌, replicate}
 use Rattle.rules.specs.Numbers.{dist, wrapped}
 use Rattle.rules.specs.Setups.{◌also◌, is_window, in_limits, in_ranges, admitted, same_setup}
 use Rattle.rules.specs.Marks.{marked, mark, unmark}
@@ -13,7 +10,7 @@ use Rattle.rules.specs.Malformed.{all_from, every, formed_recent, formed_sender,
 use Rattle.rules.specs.Events.{Event, accept, send, arrive, room, acknowledge, hear, dropd, dupd, tick, act}
 use Rattle.rules.specs.Operations.{step}
 use Rattle.rules.specs.Runs.{Said, run}
-use Rattle.rules.proofs.Session.{S, only}
+use Rattle.rules.specs.Session.{S, only}
 
 -- a unit is lost and sent again; a later one, sent a tick after that, arrives first and is stored ahead, which leaves recent as it
 -- was; so the retransmission is taken, and both are delivered
@@ -34,8 +31,14 @@ copied = room ∷ acknowledge ∷ hear 0 ∷ accept 500 ∷ send 0 ∷ tick ∷ 
 abbrev pub smaller : List Event
 smaller = acknowledge ∷ room ∷ acknowledge ∷ hear 1 ∷ hear 0 ∷ accept 500 ∷ []
 
+-- a tick's share is spent after two units, and the next tick has a share of its own
+abbrev pub share : List Event
+share =
+    room ∷ room ∷ acknowledge ∷ hear 0 ∷ accept 500 ∷ accept 740 ∷ send 0 ∷ arrive 0 64 ∷ room ∷ acknowledge ∷ hear 0
+    ∷ accept 760 ∷ tick ∷ accept 760 ∷ []
+
 -- n events, each done
-abbrev all_done : ℕ → List Said
+abbrev pub all_done : ℕ → List Said
 all_done n = replicate n (only 0)
 
 abbrev pub answers : List Event → List Said
@@ -46,5 +49,6 @@ pub slips :
     × (answers idle ≡ all_done 8)
     × (answers copied ≡ all_done 8 ++ only 4 ∷ [])
     × (answers smaller ≡ all_done 6)
+    × (answers share ≡ all_done 7 ++ record { answer = 0; units = 500 ∷ [] } ∷ all_done 3 ++ only 7 ∷ all_done 2)
 unfolding run step act dist marked mark unmark row malformed_bench formed_bench formed_sender formed_receiver formed_channel formed_aged right_data right_ack formed_recent is_no_data is_no_ack same_setup every all_from admitted in_limits in_ranges is_window ◌also◌
-slips = (refl, refl, refl, refl)
+slips = (refl, refl, refl, refl, refl)
