@@ -2,6 +2,7 @@
 use Rattle.std.specs.Prelude.{◌≡◌, ℕ, ◌+◌, ◌-◌, ◌<◌, ◌≤◌, Bool, true, false, not, nat_lt, nat_le, List, [], ◌∷◌, ◌++◌, length}
 use Rattle.std.proofs.Common.{refl, sym, ◌∙◌, append-nil, arith, lt-ltb, le-ltb, le-leb, ltb-true, ltb-false, length-append}
 use Rattle.std.proofs.lemmas.Bool.{lt-leb}
+use Rattle.rules.specs.Numbers.{wrapped}
 use Rattle.writer.specs.Row.{put, Put}
 use Rattle.writer.proofs.Row.{put_then, put_nothing}
 use Rattle.listing.specs.declared.inner.Run.{Run}
@@ -89,7 +90,7 @@ module _ (room : ℕ) (s : List ℕ) (run : Run) (h : run.at < length s) where
 
 -- ---- from the start
 module _ (room : ℕ) (s : List ℕ) where
-  pub start_full : room < length (first s).line → (joined (taken room (lines s)) ≡ []) × (nat_le (length (listing s)) room ≡ false)
+  pub start_full : room < length (first s).line → (joined (taken room (lines wrapped s)) ≡ []) × (nat_le (length (listing wrapped s)) room ≡ false)
   unfolding listing joined
   start_full l =
       let n = first s in
@@ -98,17 +99,17 @@ module _ (room : ℕ) (s : List ℕ) where
 
   abbrev Start : Step → Type 0
   Start r =
-      (joined (taken room (lines s)) ≡ (first s).line ++ (filling_of (room - length (first s).line) s r).text)
-      × (nat_le (length (listing s)) room ≡ not (filling_of (room - length (first s).line) s r).more)
+      (joined (taken room (lines wrapped s)) ≡ (first s).line ++ (filling_of (room - length (first s).line) s r).text)
+      × (nat_le (length (listing wrapped s)) room ≡ not (filling_of (room - length (first s).line) s r).more)
 
   start_by : (q : Bool) → (first s).more ≡ q → length (first s).line ≤ room → Start (step_of q (first s).run)
   unfolding listing joined filling taken
   start_by false e l =
       let n = first s in
-      rw (not_less (length (listing s)) room, first_lines s, e, taken_on room n.line [] l, long_on room n.line [] l, none_more (room - length n.line)) (refl, refl)
+      rw (not_less (length (listing wrapped s)) room, first_lines s, e, taken_on room n.line [] l, long_on room n.line [] l, none_more (room - length n.line)) (refl, refl)
   start_by true e l =
       let n = first s in
-      rw (not_less (length (listing s)) room, first_lines s, e, taken_on room n.line (rest s n.run) l, long_on room n.line (rest s n.run) l) (refl, refl)
+      rw (not_less (length (listing wrapped s)) room, first_lines s, e, taken_on room n.line (rest s n.run) l, long_on room n.line (rest s n.run) l) (refl, refl)
 
   pub start_on : (r : Step) → r ≡ step_of (first s).more (first s).run → length (first s).line ≤ room → Start r
   start_on r e l = rw e (start_by (first s).more refl l)

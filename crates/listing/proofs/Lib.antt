@@ -4,3 +4,4 @@ pub mod Setups
 pub mod Units
 pub mod Fitting
 pub mod Whole
+pub mod Agreement

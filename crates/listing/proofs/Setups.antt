@@ -9,6 +9,7 @@ use Rattle.rules.specs.declared.Bench.{Bench}
 use Rattle.rules.specs.declared.Refusal.{Refusal}
 use Rattle.rules.specs.declared.Refusal.TheVariants.{NotAdmitted}
 use Rattle.rules.specs.declared.Refused.{Refused}
+use Rattle.rules.specs.Numbers.{wrapped}
 use Rattle.rules.specs.Refusals.{number}
 use Rattle.rules.specs.Setups.{◌also◌, admitted, zero_setup}
 use Rattle.rules.specs.Parts.{fresh_bench}
@@ -102,18 +103,18 @@ one_more l i x h = rw (add-one i) (sym (take-suc-set l i x h))
 -- ---- the listing is the first line and what is left after it
 events_more :
     (S : Setup) (at : ℕ) (s : List ℕ)
-    → events_from (fresh_bench S) 9 1 (split 10 (drop at s))
+    → events_from wrapped (fresh_bench S) 9 1 (split 10 (drop at s))
     ≡ rest_of s (step_of (nat_lt at (length s)) (record { at = at; line = 9; event = 1; bench = fresh_bench S }))
 unfolding rest
 events_more S at s = rest_more s (record { at = at; line = 9; event = 1; bench = fresh_bench S })
 
 judged_by : (S : Setup) (at : ℕ) (s : List ℕ) (q : Bool) → in_fields S also admitted S ≡ q
-    → judged S (split 10 (drop at s)) ≡ then s (judged_at S at s)
+    → judged wrapped S (split 10 (drop at s)) ≡ then s (judged_at S at s)
 unfolding judged judged_at
 judged_by S at s true e = rw e (ap (λ (ls : List (List ℕ)). setup_line 0 ∷ ls) (events_more S at s))
 judged_by S at s false e = rw e
 
-at_nine : (vs : List ℕ) (ps : List (List ℕ)) → is_none ps ≡ false → setup_from 9 vs ps ≡ judged (setup_of vs) ps
+at_nine : (vs : List ℕ) (ps : List (List ℕ)) → is_none ps ≡ false → setup_from wrapped 9 vs ps ≡ judged wrapped (setup_of vs) ps
 unfolding setup_from
 at_nine vs [] h = absurd (false≢true (sym h))
 at_nine vs (p ∷ ps) h = refl
@@ -122,14 +123,14 @@ module _ (s : List ℕ) (k n at : ℕ) (vs : List ℕ) (h : at ≤ length s) (m 
   here : Index 10 s at (end_of s at)
   here = index_at 10 s at h
 
-  setup_cut : end_of s at ≡ length s → setup_from n vs (split 10 (drop at s)) ≡ bad_line n ∷ []
+  setup_cut : end_of s at ≡ length s → setup_from wrapped n vs (split 10 (drop at s)) ≡ bad_line n ∷ []
   unfolding setup_from
   setup_cut e = rw (split_end 10 s at _ here e, ne_eqb n 9 m)
 
   setup_on : (end_of s at ≡ length s → ⊥)
-      → setup_from n vs (split 10 (drop at s))
+      → setup_from wrapped n vs (split 10 (drop at s))
       ≡ on_value (setup_value n (piece s at)) (bad_line n ∷ [])
-      (λ v. setup_from (n + 1) (vs ++ v ∷ []) (split 10 (drop (end_of s at + 1) s)))
+      (λ v. setup_from wrapped (n + 1) (vs ++ v ∷ []) (split 10 (drop (end_of s at + 1) s)))
   unfolding setup_from
   setup_on d =
       let l : end_of s at < length s = omega (arith, here.within) in
@@ -139,11 +140,11 @@ module _ (s : List ℕ) (k n at : ℕ) (vs : List ℕ) (h : at ≤ length s) (m 
   abbrev After : Type 0
   After =
       end_of s at + 1 ≤ length s → (x : ℕ)
-      → setup_from (n + 1) (vs ++ x ∷ []) (split 10 (drop (end_of s at + 1) s))
+      → setup_from wrapped (n + 1) (vs ++ x ∷ []) (split 10 (drop (end_of s at + 1) s))
       ≡ then s (open_from k (n + 1) (end_of s at + 1) (vs ++ x ∷ []) s)
 
   open_value : (v : Option ℕ) → (end_of s at ≡ length s → ⊥) → setup_value n (piece s at) ≡ v → After
-      → setup_from n vs (split 10 (drop at s)) ≡ then s (open_from (suc k) n at vs s)
+      → setup_from wrapped n vs (split 10 (drop at s)) ≡ then s (open_from (suc k) n at vs s)
   open_value (Some x) d e r =
       let l : end_of s at < length s = omega (arith, here.within) in
       setup_on d ∙ rw (e, open_good s k n at vs _ here l x e) (r (omega arith) x)
@@ -152,13 +153,13 @@ module _ (s : List ℕ) (k n at : ℕ) (vs : List ℕ) (h : at ≤ length s) (m 
       setup_on d ∙ rw (e, open_bad s k n at vs _ here l e)
 
   open_end : (q : Bool) → nat_eq (end_of s at) (length s) ≡ q → After
-      → setup_from n vs (split 10 (drop at s)) ≡ then s (open_from (suc k) n at vs s)
+      → setup_from wrapped n vs (split 10 (drop at s)) ≡ then s (open_from (suc k) n at vs s)
   open_end true e r =
       let f = eqb-true (end_of s at) (length s) e in
       setup_cut f ∙ rw (open_cut s k n at vs (rw f at here))
   open_end false e r = open_value (setup_value n (piece s at)) (eqb-false (end_of s at) (length s) e) refl r
 
-opens : (k n at : ℕ) (vs s : List ℕ) → n + k ≡ 9 → at ≤ length s → setup_from n vs (split 10 (drop at s)) ≡ then s (open_from k n at vs s)
+opens : (k n at : ℕ) (vs s : List ℕ) → n + k ≡ 9 → at ≤ length s → setup_from wrapped n vs (split 10 (drop at s)) ≡ then s (open_from k n at vs s)
 unfolding open_from
 opens zero n at vs s e h =
     let f : n ≡ 9 = omega arith in
@@ -169,12 +170,12 @@ opens (suc k) n at vs s e h =
     open_end s k n at vs h (λ f. omega arith) (nat_eq (end_of s at) (length s)) refl
     (λ l x. opens k (n + 1) (end_of s at + 1) (vs ++ x ∷ []) s (omega arith) l)
 
-first_by : (s : List ℕ) (q : Bool) → nat_lt 65536 (length s) ≡ q → lines s ≡ then s (first s)
+first_by : (s : List ℕ) (q : Bool) → nat_lt 65536 (length s) ≡ q → lines wrapped s ≡ then s (first s)
 unfolding lines first
 first_by s true e = rw e
 first_by s false e = rw e (opens 8 1 0 [] s refl (omega arith))
 
-pub first_lines : (s : List ℕ) → lines s ≡ then s (first s)
+pub first_lines : (s : List ℕ) → lines wrapped s ≡ then s (first s)
 first_lines s = first_by s (nat_lt 65536 (length s)) refl
 
 -- ---- a run that begins has a line to begin with

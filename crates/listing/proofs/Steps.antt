@@ -3,6 +3,7 @@ use Rattle.std.specs.Prelude.{◌≡◌, ℕ, suc, ◌+◌, ◌-◌, ◌<◌, �
 use Rattle.std.proofs.Common.{refl, ap, sym, ◌∙◌, arith, eq-eqb, ne_eqb, eqb-true, ltb-true, ltb-false, length-drop, drop_of_length-le}
 use Rattle.std.proofs.lemmas.Bool.{eqb-false}
 use Rattle.rules.specs.declared.Event.{Event}
+use Rattle.rules.specs.Numbers.{wrapped}
 use Rattle.reader.specs.Cuts.{Index, split}
 use Rattle.reader.specs.Values.{on_value}
 use Rattle.reader.specs.Lines.{line_of}
@@ -39,7 +40,7 @@ module _ (s : List ℕ) (run : Run) where
     unfolding next
     next_bad k = rw (ne_eqb (end_of s run.at) (length s) h, k)
 
-    pub next_good : (ev : Event) → line_of (piece s run.at) ≡ Some ev → next s run ≡ went s run (outcome run.bench ev)
+    pub next_good : (ev : Event) → line_of (piece s run.at) ≡ Some ev → next s run ≡ went s run (outcome wrapped run.bench ev)
     unfolding next
     next_good ev k = rw (ne_eqb (end_of s run.at) (length s) h, k)
 
@@ -59,9 +60,9 @@ module _ (s : List ℕ) (run : Run) where
 
     pub stepped_on :
         (line : List ℕ) (ev : Event) → line_of (take (e - run.at) (drop run.at s)) ≡ Some ev
-        → line ≡ event_line run.event (outcome run.bench ev).answer (outcome run.bench ev).units → Ready s run
+        → line ≡ event_line run.event (outcome wrapped run.bench ev).answer (outcome wrapped run.bench ev).units → Ready s run
         → Stepped s run line
-        (step_of (nat_lt (e + 1) (length s)) (record { at = e + 1; line = run.line + 1; event = run.event + 1; bench = (outcome run.bench ev).state }))
+        (step_of (nat_lt (e + 1) (length s)) (record { at = e + 1; line = run.line + 1; event = run.event + 1; bench = (outcome wrapped run.bench ev).state }))
     stepped_on line ev k l r =
         let f = next_good within ev (rw i.is at k) in
         record {
@@ -116,7 +117,7 @@ module _ (s : List ℕ) (run : Run) (h : run.at < length s) where
 
   at_line : (end_of s run.at ≡ length s → ⊥) → rest s run
       ≡ on_value (line_of (piece s run.at)) (bad_line run.line ∷ [])
-      (λ ev. (went s run (outcome run.bench ev)).line ∷ rest s (went s run (outcome run.bench ev)).run)
+      (λ ev. (went s run (outcome wrapped run.bench ev)).line ∷ rest s (went s run (outcome wrapped run.bench ev)).run)
   unfolding rest events_from
   at_line n =
       let l : end_of s run.at < length s = omega (arith, here.within) in
@@ -124,7 +125,7 @@ module _ (s : List ℕ) (run : Run) (h : run.at < length s) where
 
   by_line : (l : Option Event) → (end_of s run.at ≡ length s → ⊥) → line_of (piece s run.at) ≡ l → rest s run ≡ then s (next s run)
   by_line (Some ev) n e =
-      let w = went s run (outcome run.bench ev) in
+      let w = went s run (outcome wrapped run.bench ev) in
       at_line n ∙ rw (e, next_good s run n ev e) (ap (λ (ls : List (List ℕ)). w.line ∷ ls) (rest_more s w.run))
   by_line None n e = at_line n ∙ rw (e, next_bad s run n e)
 

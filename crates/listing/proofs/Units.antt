@@ -22,9 +22,9 @@ taken (Err x) r e = e
 pub seen :
     (b : Bench) (e : Event) (old row : List ℕ) (g : Given) → length old ≡ 64 → g ≡ counted (step wrapped (event_of e (length old)) b)
     → row ≡ laid (step wrapped (event_of e (length old)) b).units old
-    → (answer_of g ≡ (outcome b e).answer) × (state_of g ≡ (outcome b e).state) × (take (count_of g) row ≡ (outcome b e).units)
+    → (answer_of g ≡ (outcome wrapped b e).answer) × (state_of g ≡ (outcome wrapped b e).state) × (take (count_of g) row ≡ (outcome wrapped b e).units)
 seen b e old row g n h l =
-    let o = outcome b e in
+    let o = outcome wrapped b e in
     let gives : g ≡ counted o = rw n at h in
     let lent : row ≡ laid o.units old = rw n at l in (
       rw gives (answer_counted o (step_known wrapped (event_of e 64) b)),

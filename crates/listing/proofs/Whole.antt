@@ -7,7 +7,7 @@ use Rattle.listing.specs.declared.inner.Step.TheVariants.{More, Over}
 use Rattle.listing.specs.Listing.{joined, listing}
 use Rattle.listing.specs.Run.{step_of, IfMore, next, first}
 use Rattle.listing.specs.Fitting.{Fill, filling}
-use Rattle.listing.specs.Output.{Loop, ends, goes_on, Output, starts}
+use Rattle.listing.specs.Output.{Loop, ends, goes_on, starts, WritesTheListing}
 use Rattle.listing.proofs.Steps.{rest_of, rest_step, next_ahead}
 use Rattle.listing.proofs.Setups.{first_lines, first_within}
 use Rattle.listing.proofs.Fitting.{filling_of, Then, fill_full, fill_on}
@@ -59,8 +59,7 @@ loop_writes room s (goes_on {run} {t} l) h =
     let c = fill_cuts room s run h in
     ap (λ (u : List ℕ). (filling room s run).text ++ u) (loop_writes room s l c.within) ∙ sym c.whole
 
--- whatever the rows' size, what the program has written when it ends is the listing of its input
-pub writes_the_listing : (room : ℕ) (s : List ℕ) {t : List ℕ} → Output room s t → t ≡ listing s
+pub writes_the_listing : WritesTheListing
 unfolding listing joined
-writes_the_listing room s (starts {t} l) =
+writes_the_listing room s _ (starts {t} l) =
     ap (λ (u : List ℕ). (first s).line ++ u) (loop_writes room s l (first_within s)) ∙ sym (ap joined (first_lines s))

@@ -1,5 +1,6 @@
 -- A listing in a row that may be too short for it: as many whole lines as fit.
 use Rattle.std.specs.Prelude.{◌≡◌, ℕ, ◌+◌, ◌-◌, ◌<◌, ◌≤◌, Bool, cond, List, [], ◌∷◌, length, nat_le, nat_lt}
+use Rattle.rules.specs.Numbers.{wrapped}
 use Rattle.writer.specs.Row.{Put}
 use Rattle.listing.specs.declared.Written.{Written}
 use Rattle.listing.specs.declared.inner.Run.{Run}
@@ -34,5 +35,5 @@ pub record Filled (s : List ℕ) (run : Run) (old new : List ℕ) (from : ℕ) (
 
 -- ---- the whole listing, from a row's start
 pub record Wrote (s old new : List ℕ) (r : Written) : Type 0 where
-  pub row : Put old new 0 (joined (taken (length old) (lines s))) r.len
-  pub whole : r.whole ≡ nat_le (length (listing s)) (length old)
+  pub row : Put old new 0 (joined (taken (length old) (lines wrapped s))) r.len
+  pub whole : r.whole ≡ nat_le (length (listing wrapped s)) (length old)

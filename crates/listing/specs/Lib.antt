@@ -1,4 +1,5 @@
 pub mod Listing
+pub mod Agreement
 pub mod Run
 pub mod Fitting
 pub mod Output

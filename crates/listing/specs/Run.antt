@@ -6,6 +6,7 @@ use Rattle.rules.specs.declared.Setup.{Setup}
 use Rattle.rules.specs.declared.Bench.{Bench}
 use Rattle.rules.specs.declared.Refusal.{Refusal}
 use Rattle.rules.specs.declared.Refusal.TheVariants.{NotAdmitted}
+use Rattle.rules.specs.Numbers.{wrapped}
 use Rattle.rules.specs.Setups.{◌also◌, admitted, zero_setup}
 use Rattle.rules.specs.Parts.{fresh_bench}
 use Rattle.rules.specs.Events as rules
@@ -90,11 +91,11 @@ went s run o = record {
 unfoldable pub next : List ℕ → Run → Next
 next s run =
     cond (end_of s run.at == length s) (last run (bad_line run.line))
-    (on_value (line_of (piece s run.at)) (last run (bad_line run.line)) (λ ev. went s run (outcome run.bench ev)))
+    (on_value (line_of (piece s run.at)) (last run (bad_line run.line)) (λ ev. went s run (outcome wrapped run.bench ev)))
 
 -- ---- what is left of the listing
 unfoldable pub rest : List ℕ → Run → List (List ℕ)
-rest s run = events_from run.bench run.line run.event (split 10 (drop run.at s))
+rest s run = events_from wrapped run.bench run.line run.event (split 10 (drop run.at s))
 
 -- where the run stands after k lines
 unfoldable pub after : ℕ → List ℕ → Run → Run

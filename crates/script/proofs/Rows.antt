@@ -3,6 +3,7 @@ use Rattle.std.proofs.Common.{◌≡◌, ℕ, ◌+◌, ◌-◌, ◌<◌, List, �
 use Rattle.std.proofs.Math.Seq.{take-length}
 use Rattle.std.specs.Io.KnownBytes.{Appends}
 use Rattle.std.proofs.KnownBytes.{Appends-trans}
+use Rattle.rules.specs.Numbers.{wrapped}
 use Rattle.writer.proofs.Row.{put_start}
 use Rattle.listing.specs.declared.inner.Run.{Run}
 use Rattle.listing.specs.declared.inner.Step.{Step}
@@ -20,10 +21,10 @@ use Rattle.script.specs.Failed.{AppendsStart}
 pub record Wrote (old new : Option (List ℕ)) (s : List ℕ) (left : Step) : Type 0 where
   pub text : List ℕ
   pub grown : Appends old new text
-  pub whole : text ++ joined (rest_of s left) ≡ listing s
+  pub whole : text ++ joined (rest_of s left) ≡ listing wrapped s
 
 -- the first line and what is left after it; a row of lines and what is left after it
-first_row : {s line : List ℕ} {r : Step} → Opened s line r → line ++ joined (rest_of s r) ≡ listing s
+first_row : {s line : List ℕ} {r : Step} → Opened s line r → line ++ joined (rest_of s r) ≡ listing wrapped s
 unfolding listing joined
 first_row {s} o = rw (o.text, o.then) (sym (ap joined (first_lines s)))
 
@@ -43,7 +44,7 @@ wrote_more {a} {b} {c} {e = e} {r = r} w h f g = record {
   whole = rw append_assoc (ap (λ t. w.text ++ t) (more_row h f) ∙ w.whole);
 }
 
-pub wrote_all : {a b : Option (List ℕ)} {s : List ℕ} {run : Run} → Wrote a b s (Over run) → Appends a b (listing s)
+pub wrote_all : {a b : Option (List ℕ)} {s : List ℕ} {run : Run} → Wrote a b s (Over run) → Appends a b (listing wrapped s)
 unfolding joined
 wrote_all {a} {b} w = subst (Appends a b) w.whole (rw append-nil w.grown)
 
@@ -82,10 +83,10 @@ start_after {a} {b} {c} t p g = record {
 
 -- so what was written when a row is written in part is a beginning of the listing
 pub start_first :
-    {a b : Option (List ℕ)} {s line : List ℕ} {r : Step} → Opened s line r → AppendsStart a b line → AppendsStart a b (listing s)
+    {a b : Option (List ℕ)} {s line : List ℕ} {r : Step} → Opened s line r → AppendsStart a b line → AppendsStart a b (listing wrapped s)
 start_first o g = start_within _ g (first_row o)
 
 pub start_more :
     {a b c : Option (List ℕ)} {s d e : List ℕ} {run : Run} {r : Part} → Wrote a b s (More run) → run.at < length s
-    → Filled s run d e 0 r → AppendsStart b c (take r.end e) → AppendsStart a c (listing s)
+    → Filled s run d e 0 r → AppendsStart b c (take r.end e) → AppendsStart a c (listing wrapped s)
 start_more {a} {c = c} w h f g = subst (AppendsStart a c) w.whole (start_after w.text w.grown (start_within _ g (more_row h f)))

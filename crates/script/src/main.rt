@@ -3,6 +3,7 @@
 
 ghost use Rattle.std.specs.Prelude.{◌<◌, ◌≤◌, length, take, IfOk, OnOk, OnErr};
 ghost use Rattle.std.specs.Io.KnownBytes.{Consumes, Appends, IsAtEnd};
+ghost use Rattle.rules.specs.Numbers.{wrapped};
 ghost use Rattle.listing.specs.Listing.{listing};
 ghost use Rattle.script.specs.Failed.{AppendsStart, ConsumesStart};
 
@@ -52,9 +53,9 @@ fn write_full<W: Write>(output: &mut W, buf: &[u8]) -> io::Result<()>
 // fails, what was written is a beginning of the listing.
 fn write_listing<W: Write>(output: &mut W, src: &[u8]) -> io::Result<()>
     ensures ok { OnOk result
-        (Appends (W.contents output.old) (W.contents output.new) (listing src.now)) }
+        (Appends (W.contents output.old) (W.contents output.new) (listing wrapped src.now)) }
     ensures err { OnErr result
-        (AppendsStart (W.contents output.old) (W.contents output.new) (listing src.now)) }
+        (AppendsStart (W.contents output.old) (W.contents output.new) (listing wrapped src.now)) }
 {
     let mut line = Line::new();
     let mut left = listing::inner::first_line(src, &mut line);
