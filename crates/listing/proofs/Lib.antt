@@ -5,3 +5,4 @@ pub mod Units
 pub mod Fitting
 pub mod Whole
 pub mod Agreement
+pub mod Long

@@ -1,9 +1,9 @@
 // Runs the script on standard input, and writes its listing to standard output.
 #![tactic(auto)]
 
-ghost use Rattle.std.specs.Prelude.{◌<◌, ◌≤◌, length, take, IfOk, OnOk, OnErr};
+ghost use Rattle.std.specs.Prelude.{◌<◌, ◌≤◌, length, take, IfSome, IfOk, OnOk, OnErr};
 ghost use Rattle.std.specs.Io.KnownBytes.{Consumes, Appends, IsAtEnd};
-ghost use Rattle.rules.specs.Numbers.{wrapped};
+ghost use Rattle.rules.specs.Numbers.{wrapped, whole};
 ghost use Rattle.listing.specs.Listing.{listing};
 ghost use Rattle.script.specs.Failed.{AppendsStart, ConsumesStart};
 
@@ -69,9 +69,20 @@ fn write_listing<W: Write>(output: &mut W, src: &[u8]) -> io::Result<()>
     Ok(())
 }
 
-// One byte more is read than a script may have, so that a script that is too long is seen. No `Vec`: the memory is fixed.
+// Runs the script that the input holds: what is written is the listing of all that the input has left, as numbers give it that never
+// wrap. Where a read or a write fails, it is a beginning of it.
+fn run<R: Read, W: Write>(input: &mut R, output: &mut W) -> io::Result<()>
+    ensures ok { OnOk result (IfSome (R.remaining input.old) (λ xs.
+        Appends (W.contents output.old) (W.contents output.new) (listing whole xs))) }
+    ensures err { OnErr result (IfSome (R.remaining input.old) (λ xs.
+        AppendsStart (W.contents output.old) (W.contents output.new) (listing whole xs))) }
+{
+    // one byte more than a script may have, so that a script that is too long is seen; no `Vec`: the memory is fixed
+    let mut script = [0u8; 65536 + 1];
+    let n = read_full(input, &mut script)?;
+    write_listing(output, &script[..n])
+}
+
 fn main(rt: HostRuntime) -> io::Result<()> {
-    let mut script = [0u8; 65537];
-    let n = read_full(&mut rt.stdin(), &mut script)?;
-    write_listing(&mut rt.stdout(), &script[..n])
+    run(&mut rt.stdin(), &mut rt.stdout())
 }
