@@ -25,7 +25,7 @@ pub const KINDS: [Kind; 4] = [
     },
     Kind {
         name: "bench",
-        title: "the bench by value, without the test",
+        title: "the bench in place, without the test",
         run: library::soak_unchecked,
     },
     Kind {

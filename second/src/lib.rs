@@ -1,6 +1,6 @@
-//! An independent second program for the bench of document 01, as a library.
+//! An independent second program for the bench of docs/RULES.md, as a library.
 //!
-//! To read it beside document 01: `setup`, then `channel`, `recent`, `sender`,
+//! To read it beside that page: `setup`, then `channel`, `recent`, `sender`,
 //! `receiver` and `bench` are the rules; `numbers` is all in which the two
 //! kinds of number differ; `malformed` is the test of damaged states; `script`
 //! and `listing` are the script program. `makers` makes random scripts;

@@ -1,4 +1,3 @@
-pub mod Session
 pub mod Steps
 pub mod Setups
 pub mod Units

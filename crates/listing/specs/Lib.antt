@@ -4,3 +4,4 @@ pub mod Run
 pub mod Fitting
 pub mod Output
 pub mod One
+pub mod Session

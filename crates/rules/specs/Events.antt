@@ -1,4 +1,4 @@
--- The events, in document 01's order. A test `may_…` goes through an event's refusals in their order; it is handed what to make
+-- The events, in the order of docs/RULES.md. A test `may_…` goes through an event's refusals in their order; it is handed what to make
 -- of a refusal's number (`refuse`) and of an event that goes on (`go`). The event itself, as `accepting`, is its test and its
 -- effect on the end or the channel that it concerns; the bench applies it to that part.
 use Rattle.std.specs.Prelude.{Bool, true, cond, List, [], ◌∷◌, ◌++◌, ℕ, zero, suc, ◌+◌, ◌-◌, ◌%◌, max, leb, ltb, eqb, length, get_or, set}

@@ -1,8 +1,6 @@
 -- A session, from its bytes to its listing, computed from the definition.
-use Rattle.std.specs.Prelude.{◌≡◌}
-use Rattle.std.proofs.Common.{refl}
-use Rattle.rules.specs.Numbers.{wrapped}
-use Rattle.rules.specs.Numbers.{dist}
+use Rattle.std.specs.Prelude.{◌≡◌, refl}
+use Rattle.rules.specs.Numbers.{dist, wrapped}
 use Rattle.rules.specs.Setups.{◌also◌, is_window, in_limits, in_ranges, admitted, same_setup}
 use Rattle.rules.specs.Marks.{marked, mark, unmark}
 use Rattle.rules.specs.Rows.{row}
