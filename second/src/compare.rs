@@ -6,8 +6,14 @@ use std::io::{self, IsTerminal, Write};
 use std::process::{Command, ExitStatus, Stdio};
 use std::thread;
 
-/// How many scripts pass between two signs of progress.
-const PROGRESS_STEP: u64 = 100;
+/// How many scripts pass between two signs of progress, when so many are done.
+fn progress_step(done: u64) -> u64 {
+    if done < 1_000 {
+        100
+    } else {
+        1_000
+    }
+}
 
 /// How the scripts so far came out.
 pub struct Comparison<'a> {
@@ -51,7 +57,7 @@ impl<'a> Comparison<'a> {
 
     fn show_progress(&self) {
         let done = self.passed + self.failed;
-        if self.progress && done.is_multiple_of(PROGRESS_STEP) {
+        if self.progress && done.is_multiple_of(progress_step(done)) {
             eprintln!("{done} done, {} failed", self.failed);
         }
     }
