@@ -11,7 +11,7 @@ use crate::script::SETUP_KEYS;
 type Lines = Vec<Vec<u8>>;
 
 /// Every wound to the lines; the likelier ones more than once.
-const WOUNDS: [fn(&mut Random, &mut Lines); 21] = [
+const WOUNDS: [fn(&mut Random, &mut Lines); 22] = [
     empty_line,
     unseen_ending,
     unseen_ending,
@@ -29,6 +29,7 @@ const WOUNDS: [fn(&mut Random, &mut Lines); 21] = [
     odd_key,
     odd_key,
     large_setup_value,
+    large_value_before_bad_line,
     swapped_lines,
     lost_line,
     repeated_line,
@@ -251,6 +252,29 @@ fn large_setup_value(random: &mut Random, lines: &mut Lines) {
         _ => u64::MAX,
     };
     lines[index] = line_of(&key, value.to_string().as_bytes());
+}
+
+/// A setup value too large for its field, and a bad setup line after it: the
+/// bad line wins.
+fn large_value_before_bad_line(random: &mut Random, lines: &mut Lines) {
+    let setup = SETUP_KEYS.len().min(lines.len()) as u64;
+    if setup < 2 {
+        return;
+    }
+    let bad = random.between(1, setup - 1);
+    let large = random.below(bad) as usize;
+    let (key, _) = split(&lines[large]);
+    let value = random.choose(&[1 << 32, 1 << 33, u64::MAX]);
+    lines[large] = line_of(&key, value.to_string().as_bytes());
+    let line = &mut lines[bad as usize];
+    let (key, value) = split(line);
+    *line = match random.below(5) {
+        0 => Vec::new(),
+        1 => key,
+        2 => line_of(&key, b""),
+        3 => line_of(&key, &[&value[..], b"x"].concat()),
+        _ => line_of(b"room", b"1"),
+    };
 }
 
 fn swapped_lines(random: &mut Random, lines: &mut Lines) {

@@ -70,6 +70,21 @@ fn damaged_scripts_come_out_in_every_way() {
 }
 
 #[test]
+fn damaged_scripts_have_a_bad_line_after_a_value_too_large() {
+    let paired = (0..1_000)
+        .map(|seed| script(seed, Kind::Damaged))
+        .filter(|script| {
+            let listing = listed(script);
+            let bad = listing.strip_prefix("bad line ");
+            let bad: Option<usize> = bad.and_then(|line| line.trim_end().parse().ok());
+            let lines = script.split(|&byte| byte == b'\n');
+            let mut before = lines.take(bad.map_or(0, |line| line - 1));
+            before.any(|line| line.ends_with(b"=4294967296"))
+        });
+    assert!(paired.count() > 10);
+}
+
+#[test]
 fn limit_scripts_have_the_sizes_about_the_limit() {
     let scripts: Vec<Vec<u8>> = (0..60).map(|seed| script(seed, Kind::Limits)).collect();
     for size in [65_536, 65_537] {
