@@ -1,6 +1,6 @@
 /* Prints the listing of the script in a file: a C program that calls the library.
  *
- *   tests/build capi
+ *   mkdir -p target/bin && tests/build capi
  *   cc -Iinclude examples/listing.c target/staticlib/libcapi.a -o target/bin/listing
  *   target/bin/listing sessions/session.script
  *

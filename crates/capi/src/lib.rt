@@ -1,5 +1,5 @@
 // What C and Rust call, as a static library: functions on numbers and slices. include/escarpoll.h says the same in C.
-// None has a `requires`, so a caller owes nothing but slices that are there.
+// None has a `requires`, so a caller owes nothing but what the header says of its pointers.
 #![tactic(auto)]
 
 ghost use Rattle.std.specs.Prelude.{◌≡◌};

@@ -1,65 +1,9 @@
 // What an operation answers, and whether it leaves what it was handed.
-use rules::{Aged, Bench, Channel, Receiver, Refused, Sender};
+use rules::Refused;
 use std::{fmt, io};
 
 // The row that is lent: 64 places, each filled.
 pub const ROW: [u64; 64] = [77; 64];
-
-// States that are compared field by field.
-pub trait Same {
-    fn is_same(&self, other: &Self) -> bool;
-}
-
-impl Same for Sender {
-    fn is_same(&self, other: &Sender) -> bool {
-        self.setup == other.setup
-            && self.una == other.una
-            && self.outstanding == other.outstanding
-            && self.granted == other.granted
-            && self.accepted == other.accepted
-            && self.clock == other.clock
-            && self.recent == other.recent
-            && self.slots == other.slots
-    }
-}
-
-impl Same for Receiver {
-    fn is_same(&self, other: &Receiver) -> bool {
-        self.setup == other.setup
-            && self.nxt == other.nxt
-            && self.window == other.window
-            && self.clock == other.clock
-            && self.recent == other.recent
-            && self.slots == other.slots
-            && self.marks == other.marks
-    }
-}
-
-impl<P: PartialEq> Same for Aged<P> {
-    fn is_same(&self, other: &Aged<P>) -> bool {
-        self.packet == other.packet && self.age == other.age
-    }
-}
-
-impl<P: PartialEq> Same for Channel<P> {
-    fn is_same(&self, other: &Channel<P>) -> bool {
-        for (mine, theirs) in self.packets.iter().zip(other.packets.iter()) {
-            if !mine.is_same(theirs) {
-                return false;
-            }
-        }
-        self.setup == other.setup && self.count == other.count
-    }
-}
-
-impl Same for Bench {
-    fn is_same(&self, other: &Bench) -> bool {
-        self.sender.is_same(&other.sender)
-            && self.receiver.is_same(&other.receiver)
-            && self.datas.is_same(&other.datas)
-            && self.acks.is_same(&other.acks)
-    }
-}
 
 // The number of an answer, and whether anything moved.
 #[derive(Clone, Copy, PartialEq)]
@@ -87,15 +31,15 @@ pub fn state<T: Copy, S: Copy>(given: Result<(T, S), Refused<S>>) -> Result<S, R
 }
 
 // The answer of an operation that was handed `before`.
-pub fn answered<S: Copy + Same>(given: Result<S, Refused<S>>, before: &S) -> Answer {
+pub fn answered<S: Copy + PartialEq>(given: Result<S, Refused<S>>, before: &S) -> Answer {
     Answer {
         number: rules::answer(&given),
-        moved: !left(given).is_same(before),
+        moved: left(given) != *before,
     }
 }
 
 // The same of one that was lent places of `row` too.
-pub fn answered_with_row<S: Copy + Same>(
+pub fn answered_with_row<S: Copy + PartialEq>(
     given: Result<S, Refused<S>>,
     before: &S,
     row: &[u64; 64],

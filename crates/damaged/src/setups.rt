@@ -125,7 +125,7 @@ fn too_few(rt: &impl Print) -> io::Result<()> {
 
 pub fn show(rt: &impl Print) -> io::Result<()> {
     println!(rt;
-        "Setups: fresh of the sender, the receiver, the channels and the bench, where a + stands for a state that is not all zero; then what the fresh parts do, as below."
+        "Setups: fresh of the sender, the receiver, the channels and the bench, where a + stands for a state that is not all zero; then what the fresh parts do, as below; where the setup is refused, parts that are all zero but for it."
     )?;
     admitted(rt)?;
     out_of_range(rt)?;

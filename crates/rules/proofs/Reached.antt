@@ -13,7 +13,7 @@ use Rattle.rules.specs.Fit.{FitBench}
 use Rattle.rules.specs.Events.{Event, act}
 use Rattle.rules.specs.Operations.{step}
 use Rattle.rules.specs.Runs.{final}
-use Rattle.rules.specs.Reached.{Reached}
+use Rattle.rules.specs.Reached.{Reached, NeedsNoTest}
 use Rattle.rules.proofs.Agreement.Theorem.{fresh_formed, fresh_fit}
 
 pub reached_fresh : {S : Setup} → admitted S ≡ true → Reached (fresh_bench S)
@@ -43,3 +43,6 @@ reached_fit r = subst FitBench (sym r.by_events) (fresh_fit r.setup r.admitted_s
 pub reached_act : {b : Bench} → Reached b → (e : Event) → step wrapped e b ≡ act (wrapped b.sender.setup) b.sender.setup e b
 unfolding step
 reached_act r e = rw (reached_formed r)
+
+pub needs_no_test : NeedsNoTest
+needs_no_test b r = record { formed = reached_formed r; fit = reached_fit r; acts = reached_act r; next = reached_step r }

@@ -29,7 +29,7 @@ pub struct Recent {
 }
 
 // The ends' slots are arrays with numbers beside them: the memory is fixed, and any numbers make a state that `malformed` is asked of.
-#[derive(Clone, Copy)]
+#[derive(Clone, Copy, PartialEq, Eq)]
 pub struct Sender {
     pub setup: Setup,
     pub una: u32,
@@ -41,7 +41,7 @@ pub struct Sender {
     pub slots: [u64; 64],
 }
 
-#[derive(Clone, Copy)]
+#[derive(Clone, Copy, PartialEq, Eq)]
 pub struct Receiver {
     pub setup: Setup,
     pub nxt: u32,
@@ -68,7 +68,7 @@ pub struct BareAck {
 }
 
 // A packet as a channel holds it.
-#[derive(Clone, Copy)]
+#[derive(Clone, Copy, PartialEq, Eq)]
 pub struct Aged<P> {
     pub packet: P,
     pub age: u32,
@@ -76,7 +76,7 @@ pub struct Aged<P> {
 
 // At most 32 packets in order; the places past `count` are all 0.
 // No slice or `Vec`: the memory is fixed, and a state with something past `count` is one that `malformed` is asked of.
-#[derive(Copy)]
+#[derive(Copy, PartialEq, Eq)]
 pub struct Channel<P> {
     pub setup: Setup,
     pub packets: [Aged<P>; 32],
@@ -94,7 +94,7 @@ impl<P: Copy> Clone for Channel<P> {
     }
 }
 
-#[derive(Clone, Copy)]
+#[derive(Clone, Copy, PartialEq, Eq)]
 pub struct Bench {
     pub sender: Sender,
     pub receiver: Receiver,
