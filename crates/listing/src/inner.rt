@@ -92,7 +92,7 @@ pub fn first_line(src: &[u8], line: &mut Line) -> Step
 
 // The line of the listing for the script's line at which the run stands. The run ends with a bad line, and with the script.
 #[tactic(auto, using(crate::proofs::Steps::stepped_cut, crate::proofs::Steps::stepped_bad))]
-pub fn next_line(src: &[u8], run: Run, line: &mut Line) -> Step
+pub(crate) fn next_line(src: &[u8], run: Run, line: &mut Line) -> Step
     requires { Ready src.now run }
     ensures { Stepped src.now run line.new result }
 {
