@@ -1,5 +1,5 @@
 -- The setup lines: as pieces of the script and as a walk over it; and the judgement.
-use Rattle.std.specs.Prelude.{◌≡◌, ℕ, zero, suc, ◌+◌, ◌-◌, ◌<◌, ◌≤◌, Bool, true, false, cond, nat_eq, nat_lt, List, [], ◌∷◌, ◌++◌, length, take, drop, set, Option, Some, None, Result, Ok, Err, MatchResult}
+use Rattle.std.specs.Prelude.{◌≡◌, ℕ, zero, suc, ◌+◌, ◌-◌, ◌^◌, ◌<◌, ◌≤◌, Bool, true, false, cond, nat_eq, nat_lt, List, [], ◌∷◌, ◌++◌, length, take, drop, set, Option, Some, None, Result, Ok, Err, MatchResult}
 use Rattle.std.proofs.Common.{refl, ap, sym, ◌∙◌, arith, add-one, eq-eqb, ne_eqb, eqb-true, lt-ltb, le-ltb, ltb-true, take-suc-set, take_all}
 use Rattle.std.specs.Bool.{then_some}
 use Rattle.std.proofs.lemmas.Option.{same_Some}
@@ -15,7 +15,7 @@ use Rattle.rules.specs.Setups.{◌also◌, admitted, zero_setup}
 use Rattle.rules.specs.Parts.{fresh_bench}
 use Rattle.rules.specs.Events.{done, refused}
 use Rattle.rules.specs.Operations.{begun, returned}
-use Rattle.rules.proofs.Tests.{true_also}
+use Rattle.rules.proofs.Tests.{both, true_also}
 use Rattle.reader.specs.Cuts.{Index, split, is_none}
 use Rattle.reader.specs.Values.{on_value}
 use Rattle.reader.specs.Lines.{setup_value}
@@ -69,6 +69,22 @@ module _ (S : Setup) where
       let t = then_is _ _ T f in
       let q : in_fields S also admitted S ≡ admitted S = rw t.0 (true_also (admitted S)) in
       rw q (by_fresh (admitted S) g r (rw t.1 h) m)
+
+-- each number fits its field
+pub record Fit (S : Setup) : Type 0 where
+  pub window : S.window < 2 ^ 32
+  pub seqbits : S.seqbits < 2 ^ 32
+  pub clockbits : S.clockbits < 2 ^ 32
+  pub life : S.life < 2 ^ 32
+  pub rate : S.rate < 2 ^ 32
+  pub seq : S.seq < 2 ^ 32
+  pub sclock : S.sclock < 2 ^ 32
+  pub rclock : S.rclock < 2 ^ 32
+
+-- it does in a setup that passes the test
+pub fields_fit : (S : Setup) → in_fields S ≡ true → Fit S
+unfolding in_fields
+fields_fit S e = grind (arith, both)
 
 -- ---- reading the lines one by one
 module _ (s : List ℕ) (k n at : ℕ) (vs : List ℕ) where

@@ -1,5 +1,6 @@
--- How a packet's arrival comes out: it is refused, or it is let in and stored. What `data` is proved by.
-use Rattle.std.specs.Prelude.{◌≡◌, ◌≢◌, ℕ, ◌%◌, ◌<◌, Bool, true, false, List, set, Result, Ok, Err}
+-- The cases of the receiver's rules: one law for each answer. And how a packet's arrival comes out, which is what `data` is proved
+-- by: it is refused, or it is let in and stored.
+use Rattle.std.specs.Prelude.{◌≡◌, ◌≢◌, ℕ, ◌+◌, ◌%◌, ◌<◌, ◌≤◌, Bool, true, false, List, set, Result, Ok, Err}
 use mathlib.Core.Path.{refl}
 use native.Mathlib.Decide.{dec_lt}
 use native.Mathlib.Omega.{arith}
@@ -7,13 +8,40 @@ use borrow.Author.Tests.{lt-ltb, le-ltb, le-leb, lt-leb, ne_eqb}
 use Rattle.rules.specs.declared.Receiver.{Receiver}
 use Rattle.rules.specs.declared.BareData.{BareData}
 use Rattle.rules.specs.declared.Refusal.{Refusal}
-use Rattle.rules.specs.Numbers.{NS, dist, wrapped}
+use Rattle.rules.specs.Numbers.{NS, NC, dist, wrapped}
 use Rattle.rules.specs.Marks.{marked, mark}
 use Rattle.rules.specs.Fit.{FitReceiver, FitData}
-use Rattle.rules.specs.Events.{Out, refused, passed, may_arrive, deliver, advanced, stored, arriving}
+use Rattle.rules.specs.Events.{Out, refused, done, passed, older, may_arrive, deliver, advanced, stored, arriving, opening, ticked_receiver}
 use Rattle.rules.specs.Operations.{answered, Counts}
 use Rattle.rules.proofs.Deliveries.{within_here, dist_same, dist_other}
 
+-- ---- room and tick
+module _ (r : Receiver) where
+  -- 13 where the window is RW
+  pub full : r.setup.window ≤ r.window → refused r 13 ≡ opening r.setup r
+  full l = grind arith
+
+  -- else it grows by 1
+  pub opens : r.window < r.setup.window
+      → done (record
+      { setup = r.setup; nxt = r.nxt; window = r.window + 1; clock = r.clock; recent = r.recent; slots = r.slots; marks = r.marks })
+      ≡ opening r.setup r
+  opens l = grind arith
+
+  -- the clock moves by 1 round its range, and recent becomes one older
+  pub ticks : record {
+    setup = r.setup;
+    nxt = r.nxt;
+    window = r.window;
+    clock = (r.clock + 1) % NC r.setup;
+    recent = older r.setup.life r.recent;
+    slots = r.slots;
+    marks = r.marks;
+  }
+      ≡ ticked_receiver (wrapped r.setup) r.setup r
+  ticks = grind arith
+
+-- ---- data arriving
 -- what a test tells by its number
 abbrev told : ℕ → Result (Unit {0}) Refusal
 told n = answered n tt
@@ -26,6 +54,29 @@ module _ (r : Receiver) (p : BareData) where
   -- the number of the refusal, or 0
   abbrev verdict : ℕ
   verdict = may_arrive (wrapped r.setup) r.setup p r (λ (n : ℕ). n) (λ (o : ℕ). 0)
+
+  -- 9 where it is stale
+  pub stale : passed (wrapped r.setup) r.recent p.stamp ≡ false → 9 ≡ verdict
+  stale e = grind arith
+
+  module _ {d : ℕ} (fresh : passed (wrapped r.setup) r.recent p.stamp ≡ true) (off : d ≡ o) where
+    -- 10 where it is behind nxt
+    pub behind : r.setup.window ≤ d → 10 ≡ verdict
+    behind l = grind arith
+
+    module _ (near : d < r.setup.window) where
+      -- 11 where it is beyond the window
+      pub beyond : r.window ≤ d → 11 ≡ verdict
+      beyond l = grind arith
+
+      module _ (room : d < r.window) where
+        -- 12 where it is already stored
+        pub twice : marked r.marks (p.seq % r.setup.window) ≡ true → 12 ≡ verdict
+        twice m = grind arith
+
+        -- else it goes on
+        pub goes : marked r.marks (p.seq % r.setup.window) ≡ false → 0 ≡ verdict
+        goes m = grind arith
 
   -- the event
   abbrev arrived : Out Receiver
@@ -74,11 +125,11 @@ module _ (r : Receiver) (p : BareData) where
   }
 
   module _ (go : Ok tt ≡ told verdict) (fit : FitReceiver r) (right : FitData r.setup p) where
-    goes : (arrived ≡ stored (wrapped r.setup) r.setup p r o) × (o < r.window)
-    goes = going view go
+    goes_on : (arrived ≡ stored (wrapped r.setup) r.setup p r o) × (o < r.window)
+    goes_on = going view go
 
     pub keeps : {row : List ℕ} → p.seq ≢ r.nxt → Counts arrived (Ok 0) kept row row
-    keeps ne = rw (goes.0, ne_eqb o 0 (dist_other _ _ _ right.seq fit.nxt ne)) (record { gives = refl; leaves = refl; lent = refl })
+    keeps ne = rw (goes_on.0, ne_eqb o 0 (dist_other _ _ _ right.seq fit.nxt ne)) (record { gives = refl; leaves = refl; lent = refl })
 
     module _ (next : p.seq ≡ r.nxt) where
       here : o ≡ 0
@@ -87,7 +138,7 @@ module _ (r : Receiver) (p : BareData) where
       -- it is fit for a delivery
       pub ready : FitReceiver kept
       ready =
-          let room : 0 < r.window = omega (arith, goes.1, here) in
+          let room : 0 < r.window = omega (arith, goes_on.1, here) in
           record {
             setup = fit.setup;
             nxt = fit.nxt;
@@ -102,4 +153,4 @@ module _ (r : Receiver) (p : BareData) where
           → Counts (advanced (wrapped r.setup) r.setup p.stamp kept
           (deliver (wrapped r.setup).seq r.setup.window r.setup.window r.nxt kept.slots kept.marks)) (Ok k) x row out
           → Counts arrived (Ok k) x row out
-      delivers d = rw (goes.0, here) (record { gives = d.gives; leaves = d.leaves; lent = d.lent })
+      delivers d = rw (goes_on.0, here) (record { gives = d.gives; leaves = d.leaves; lent = d.lent })

@@ -1,4 +1,5 @@
--- The bench over its parts: a packet that it takes out of a channel is in range, and which events deliver nothing.
+-- The bench over its parts: a packet that it takes out of a channel is in range, what a part's answer says, and which events deliver
+-- nothing.
 use mathlib.Core.Path.{◌≡◌, refl, sym, subst}
 use mathlib.Core.Bool.{Bool, true, false, cond}
 use mathlib.Core.List.{List, [], ◌∷◌}
@@ -9,6 +10,7 @@ use lib.ListN.{length, get_or}
 use borrow.Author.Tests.{leb-false}
 use Rattle.std.specs.Prelude.{Ok}
 use Rattle.rules.specs.declared.Setup.{Setup}
+use Rattle.rules.specs.declared.Sender.{Sender}
 use Rattle.rules.specs.declared.Receiver.{Receiver}
 use Rattle.rules.specs.declared.BareData.{BareData}
 use Rattle.rules.specs.declared.BareAck.{BareAck}
@@ -17,7 +19,7 @@ use Rattle.rules.specs.Parts.{no_data, no_ack, new, DataChannel, AckChannel, Kin
 use Rattle.rules.specs.Malformed.{every, malformed_bench}
 use Rattle.rules.specs.Fit.{FitData, FitAck, FitBench}
 use Rattle.rules.specs.Numbers.{Arith}
-use Rattle.rules.specs.Events.{Out, refused, done, gives, opened, opening, packet_at, removed, taking, Event, accept, send, arrive, room, acknowledge, hear, dropd, dropa, dupd, dupa, tick, act}
+use Rattle.rules.specs.Events.{Out, refused, done, gives, sending, opened, opening, packet_at, removed, taking, Event, accept, send, arrive, room, acknowledge, hear, dropd, dropa, dupd, dupa, tick, act}
 use Rattle.rules.specs.Operations.{answered, step, Makes}
 use Rattle.rules.proofs.Tests.{both}
 use Rattle.rules.proofs.Fits.{fit_data, fit_ack}
@@ -58,6 +60,25 @@ module _ {b : Bench} (f : FitBench b) (j : ℕ) where
 
   pub taken_ack : {p : BareAck} {x : AckChannel} → Makes (taking ack_channel j b.acks) (Ok p) x → FitAck b.sender.setup p
   taken_ack m = let t = taken ack_channel m in subst (FitAck b.sender.setup) (sym t.1) (ack_at f j t.0)
+
+-- ---- a part that gives a packet, or refuses: what its answer says of the test
+module _ (A : Arith) (S : Setup) (k : ℕ) (s : Sender) {a : ℕ} (e : a ≡ (sending A S k s).answer) where
+  -- refused: there is no unit k, and the number is 4
+  pub sending_refused : (a ≡ 0 → ⊥) → (leb s.outstanding k ≡ true) × (a ≡ 4)
+  sending_refused n = grind arith
+
+  -- not refused: there is one
+  pub sending_done : a ≡ 0 → leb s.outstanding k ≡ false
+  sending_done z = grind arith
+
+module _ {H P C : Type 0} (K : Kind H P C) (j : ℕ) (c : C) {a : ℕ} (e : a ≡ (taking K j c).answer) where
+  -- refused: there is no place j, and the number is 4
+  pub taking_refused : (a ≡ 0 → ⊥) → (leb (K.count c) j ≡ true) × (a ≡ 4)
+  taking_refused n = grind arith
+
+  -- not refused: there is one
+  pub taking_done : a ≡ 0 → leb (K.count c) j ≡ false
+  taking_done z = grind arith
 
 -- ---- room delivers nothing
 pub opening_quiet : (S : Setup) (r : Receiver) → (opening S r).units ≡ []

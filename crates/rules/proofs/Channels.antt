@@ -4,8 +4,8 @@ use mathlib.Core.Bool.{Bool, true, false}
 use mathlib.Core.List.{List, [], ◌∷◌, ◌++◌}
 use Prim.Native.Nat.{ℕ, ◌+◌, ◌-◌, ◌<◌}
 use native.Mathlib.Omega.{arith}
-use lib.ListN.{length, set, length-append, length-take}
-use lib.Seq.{length-take-le}
+use lib.ListN.{length, get_or, set, length-append, length-take}
+use lib.Seq.{length-take-le, get_or-take}
 use borrow.Author.Tests.{lt-leb}
 use Rattle.rules.specs.declared.Channel.{Channel}
 use Rattle.rules.specs.declared.Setup.{Setup}
@@ -14,6 +14,7 @@ use Rattle.rules.specs.Rows.{row, remove}
 use Rattle.rules.specs.Parts.{Kind, live, kind}
 use Rattle.rules.specs.Malformed.{formed_channel, malformed_channel}
 use Rattle.rules.specs.Fit.{FitSetup, FitChannel}
+use Rattle.rules.specs.Events.{packet_at}
 use Rattle.rules.proofs.Tests.{both, passes}
 use Rattle.rules.proofs.Rows.{closed, row_added, row_removed, length_row, length_remove}
 use Rattle.rules.proofs.Fits.{limits, fit_setup, fit_kind}
@@ -31,6 +32,10 @@ module _ {H P C : Type 0} (K : Kind H P C) (c : C) (f : FitChannel K c) where
 
   pub length_live : length (live K c) ≡ K.count c
   length_live = length-take-le (K.count c) (K.packets c) (omega (arith, f.few, length_packets))
+
+  -- the packet at a place of the array is the packet at that place
+  pub found : (j : ℕ) → j < K.count c → get_or (K.packets c) j (empty K) ≡ packet_at K j c
+  found j h = grind (arith, get_or-take)
 
   -- a packet stored at the first empty place
   pub packets_added : (p : P) → K.count c < 32 → set (K.packets c) (K.count c) p ≡ row (empty K) (live K c ++ p ∷ [])

@@ -6,9 +6,10 @@ use Prim.Native.Nat.{ℕ, suc, zero, ◌+◌, ◌-◌, ◌≤◌, ◌<◌}
 use native.Mathlib.Numerals.{add-one}
 use native.Mathlib.Omega.{arith}
 use lib.Dec.{leb}
-use lib.ListN.{length, get_or, take, drop, set, replicate, length-set, length-append, length-take, length-drop, length-replicate}
-use lib.Seq.{take-suc, take-suc-set, drop-set-lt, drop-drop, take_all, length-take-le, get_or-append-add, get_or-append_seam, take-append_seam}
+use lib.ListN.{length, get_or, take, drop, set, replicate, length-set, length-append, length-take, length-drop, length-replicate, get_or-append}
+use lib.Seq.{take-suc, take-suc-set, drop-set-lt, drop-drop, get_or-drop, take_all, length-take-le, get_or-append-add, get_or-append_seam, take-append_seam}
 use borrow.Author.Tests.{le-leb, lt-leb}
+use Rattle.std.proofs.lemmas.List.{get_or-append_right}
 use Rattle.rules.specs.Rows.{row, remove, aged}
 
 -- ---- a loop that writes a list from the front on: what is passed is the result's, what is not is the old list's
@@ -20,6 +21,10 @@ module _ {A : Type 0} (d : A) where
   pub left_more : (out l : List A) (i : ℕ) (v : A) → drop i out ≡ drop i l → drop (i + 1) (set out i v) ≡ drop (i + 1) l
   left_more out l i v e =
       drop-set-lt (i + 1) out i v (omega arith) ∙ sym (drop-drop 1 i out) ∙ ap (λ (x : List A). drop 1 x) e ∙ drop-drop 1 i l
+
+  -- and each place of what is not passed is the old list's
+  pub left_at : (out l : List A) (i k : ℕ) → drop i out ≡ drop i l → get_or out (i + k) d ≡ get_or l (i + k) d
+  left_at out l i k e = grind (arith, get_or-drop)
 
   -- all but the last place passed, and the last one written
   pub passed_all : (out r : List A) (n : ℕ) (v : A) → length out ≡ n + 1 → length r ≡ n + 1 → take n out ≡ take n r → v ≡ get_or r n d
@@ -43,6 +48,15 @@ module _ {A : Type 0} (z : A) (ps : List A) (j : ℕ) (h : j < length ps) where
 
   front : length (take j ps) ≡ j
   front = length-take-le j ps (omega arith)
+
+  -- before j it is the array as it was
+  pub closed_before : take j ps ≡ take j (closed z ps j)
+  closed_before = grind (arith, take-append_seam, front, split)
+
+  -- past j stands what stood one place further
+  pub closed_at : (i : ℕ) → j ≤ i → i + 1 < length ps → get_or (closed z ps j) i z ≡ get_or ps (i + 1) z
+  unfolding closed
+  closed_at i hj hi = grind (arith, get_or-append_right, get_or-append, get_or-drop, length-drop, front)
 
   pub closed_last : (n : ℕ) → length ps ≡ n + 1 → get_or (closed z ps j) n z ≡ z
   closed_last n hn =

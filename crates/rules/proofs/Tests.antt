@@ -17,6 +17,12 @@ pub ◌and◌ : {a b : Bool} → a ≡ true → b ≡ true → a also b ≡ true
 unfolding ◌also◌
 p and q = rw (p, q)
 
+-- three tests are one, whichever two come together first
+pub also_assoc : (a b c : Bool) → (a also b) also c ≡ a also (b also c)
+unfolding ◌also◌
+also_assoc true b c = refl
+also_assoc false b c = refl
+
 pub true_also : (c : Bool) → true also c ≡ c
 unfolding ◌also◌
 true_also c = refl

@@ -1,6 +1,6 @@
 -- Things written into a row one after another are one thing written.
-use Rattle.std.proofs.Common.{◌≡◌, ℕ, ◌+◌, ◌≤◌, List, [], ◌++◌, length, take, drop, ap, sym, ◌∙◌, append_assoc, arith, length-append, take-append-drop, drop-drop}
-use Rattle.std.proofs.Math.Seq.{paste, take-paste, drop-paste, length-paste, take-length, take-append_seam}
+use Rattle.std.proofs.Common.{◌≡◌, ℕ, ◌+◌, ◌<◌, ◌≤◌, List, [], ◌∷◌, ◌++◌, length, take, drop, set, ap, sym, ◌∙◌, append_assoc, arith, length-append, take-append-drop, drop-drop}
+use Rattle.std.proofs.Math.Seq.{paste, take-paste, drop-paste, length-paste, take-length, set_split, take-append_seam}
 use borrow.Rule.Slice.PartMut.{put_mid}
 use Rattle.writer.specs.Row.{put, Put}
 
@@ -35,6 +35,11 @@ pub put_copied : (d : List ℕ) (at k : ℕ) (s : List ℕ) → k ≡ length s �
 unfolding put
 put_copied d at k s e = rw (e, drop-drop (length s) at d)
 
+-- one element written
+pub put_one : (d : List ℕ) (at b : ℕ) → at < length d → set d at b ≡ put d at (b ∷ [])
+unfolding put
+put_one d at b h = grind (arith, set_split)
+
 pub put_nothing : (d : List ℕ) (at : ℕ) → put d at [] ≡ d
 unfolding put
 put_nothing d at = let e : at + 0 ≡ at = omega arith in rw e (take-append-drop at d)
@@ -57,3 +62,7 @@ unfolding put
 put_start {d} {e} {s} {r} p =
     let n : r ≡ length s = omega (arith, p.next) in
     rw (p.row, n) (take-append_seam s (drop (0 + length s) d))
+
+pub put_within : {d e s : List ℕ} {r : ℕ} → Put d e 0 s r → r ≤ length e
+unfolding put
+put_within {d} {e} {s} {r} p = grind (arith, length-append)
