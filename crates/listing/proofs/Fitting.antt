@@ -10,7 +10,7 @@ use Rattle.listing.specs.declared.inner.Step.{Step}
 use Rattle.listing.specs.declared.inner.Step.TheVariants.{More, Over}
 use Rattle.listing.specs.declared.inner.Part.{Part}
 use Rattle.listing.specs.Listing.{lines, joined, listing}
-use Rattle.listing.specs.Run.{step_of, next, first, rest, after, Opened}
+use Rattle.listing.specs.Run.{step_of, next, first, rest, after, SetFirst}
 use Rattle.listing.specs.Fitting.{taken, Fill, filling, Filled, Wrote}
 use Rattle.listing.proofs.Steps.{rest_of, rest_step}
 use Rattle.listing.proofs.Setups.{first_lines}
@@ -182,18 +182,18 @@ over_is false a b e = refl
 
 -- ---- the whole listing in a row: the cases
 module _ (s old line : List ℕ) where
-  pub wrote_none : (r : Step) → Opened s line r → length old < length line → Wrote s old old (record { len = 0; whole = false })
+  pub wrote_none : (r : Step) → SetFirst s line r → length old < length line → Wrote s old old (record { len = 0; whole = false })
   wrote_none r o l =
       let w = start_full (length old) s (rw o.text at l) in
       record { row = rw w.0 (record { row = sym (put_nothing old 0); next = refl }); whole = sym w.1 }
 
   module _ (mid : List ℕ) (at : ℕ) (run : Run) (p : Put old mid 0 line at) (l : length line ≤ length old) where
-    pub wrote_first : Opened s line (Over run) → Wrote s old mid (record { len = at; whole = true })
+    pub wrote_first : SetFirst s line (Over run) → Wrote s old mid (record { len = at; whole = true })
     wrote_first o =
         let w = start_on (length old) s (Over run) o.then (rw o.text at l) in
         record { row = rw (w.0, append-nil) (rw o.text at p); whole = sym w.1 }
 
-    module _ (o : Opened s line (More run)) (k : length mid ≡ length old) (new : List ℕ) (f : Part) (i : Filled s run mid new at f) where
+    module _ (o : SetFirst s line (More run)) (k : length mid ≡ length old) (new : List ℕ) (f : Part) (i : Filled s run mid new at f) where
       abbrev more : Bool
       more = (filling (length mid - at) s run).more
 

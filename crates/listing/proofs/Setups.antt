@@ -24,7 +24,7 @@ use Rattle.listing.specs.declared.inner.Step.TheVariants.{Over}
 use Rattle.listing.specs.declared.inner.begin.SetupLines.{SetupLines}
 use Rattle.listing.specs.declared.inner.begin.BadLine.{BadLine}
 use Rattle.listing.specs.Listing.{bad_line, bad_input, setup_line, events_from, setup_of, in_fields, judged, setup_from, lines}
-use Rattle.listing.specs.Run.{Next, last, step_of, IfMore, end_of, piece, fitting, opened, nowhere, judged_at, open_from, first, Ready, Opened, settled, SetupRead, rest}
+use Rattle.listing.specs.Run.{Next, last, step_of, IfMore, end_of, piece, fitting, opened, nowhere, judged_at, open_from, first, Ready, SetFirst, settled, SetupRead, rest}
 use Rattle.listing.proofs.Steps.{if_then, rest_of, then, rest_more}
 
 -- ---- two tests in one
@@ -261,10 +261,10 @@ module _ (s : List ℕ) where
       unfolding judged_at
       first_on b e = let t = taken_by _ _ b e in first_settled (Ok l) i ∙ rw (t.0, t.1)
 
-      pub opened_on :
+      pub set_first_on :
           (line : List ℕ) (b : Bench) → Ok b ≡ opened (setup_of l.values) → line ≡ setup_line 0
-          → Opened s line (step_of (nat_lt l.end (length s)) (record { at = l.end; line = 9; event = 1; bench = b }))
-      opened_on line b e p =
+          → SetFirst s line (step_of (nat_lt l.end (length s)) (record { at = l.end; line = 9; event = 1; bench = b }))
+      set_first_on line b e p =
           let f = first_on b e in
           record {
             text = rw f p;
@@ -278,5 +278,5 @@ module _ (s : List ℕ) where
                 });
           }
 
-  pub opened_last : (line : List ℕ) → first s ≡ last nowhere line → Opened s line (Over nowhere)
-  opened_last line e = record { text = rw e; then = rw e; ready = tt }
+  pub set_first_last : (line : List ℕ) → first s ≡ last nowhere line → SetFirst s line (Over nowhere)
+  set_first_last line e = record { text = rw e; then = rw e; ready = tt }

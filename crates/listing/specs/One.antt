@@ -6,7 +6,7 @@ use Rattle.listing.specs.declared.Written.{Written}
 use Rattle.listing.specs.declared.inner.Run.{Run}
 use Rattle.listing.specs.declared.inner.Step.{Step}
 use Rattle.listing.specs.declared.inner.Part.{Part}
-use Rattle.listing.specs.Run.{Next, WroteLine}
+use Rattle.listing.specs.Run.{Next, SetLine, WroteLine}
 use Rattle.listing.specs.Fitting.{Filled, Wrote}
 
 abbrev written : ℕ → Bool → Written
@@ -26,9 +26,16 @@ one_write {r = r} {r' = r'} p q =
     let o = one_put p.row q.row in
     (o.0, same_written r r' o.1 (p.whole ∙ sym q.whole))
 
--- first_line and next_line
-pub one_line : {s line line' : List ℕ} {n : Next} {r r' : Step} → WroteLine s n line r → WroteLine s n line' r' → (line ≡ line') × (r ≡ r')
-one_line p q = (p.text ∙ sym q.text, p.then ∙ sym q.then)
+-- first_line
+pub one_line :
+    {s old new new' : List ℕ} {n : Next} {r r' : Part} → WroteLine s old new n r → WroteLine s old new' n r' → (new ≡ new') × (r ≡ r')
+one_line {r = r} {r' = r'} p q =
+    let o = one_put p.row q.row in
+    (o.0, same_part r r' o.1 (p.then ∙ sym q.then))
+
+-- set_first and next_line
+pub one_set_line : {s line line' : List ℕ} {n : Next} {r r' : Step} → SetLine s n line r → SetLine s n line' r' → (line ≡ line') × (r ≡ r')
+one_set_line p q = (p.text ∙ sym q.text, p.then ∙ sym q.then)
 
 pub one_fill :
     {s : List ℕ} {run : Run} {old new new' : List ℕ} {from : ℕ} {r r' : Part}

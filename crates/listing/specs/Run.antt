@@ -13,10 +13,12 @@ use Rattle.rules.specs.Events as rules
 use Rattle.reader.specs.Cuts.{index_of, split}
 use Rattle.reader.specs.Values.{on_value}
 use Rattle.reader.specs.Lines.{line_of, setup_value}
+use Rattle.writer.specs.Row.{Put}
 use Rattle.writer.specs.Lines.{event_line}
 use Rattle.listing.specs.declared.inner.Run.{Run}
 use Rattle.listing.specs.declared.inner.Step.{Step}
 use Rattle.listing.specs.declared.inner.Step.TheVariants.{More, Over}
+use Rattle.listing.specs.declared.inner.Part.{Part}
 use Rattle.listing.specs.declared.inner.begin.SetupLines.{SetupLines}
 use Rattle.listing.specs.declared.inner.begin.BadLine.{BadLine}
 use Rattle.listing.specs.Listing.{bad_input, bad_line, setup_line, outcome, events_from, setup_of, in_fields}
@@ -110,17 +112,26 @@ pub record Ready (s : List ℕ) (run : Run) : Type 0 where
   pub lines : run.line ≤ run.at + 1
   pub events : run.event ≤ run.at + 1
 
--- the line that a step wrote, and where it leaves the run: `n` is the step
-pub record WroteLine (s : List ℕ) (n : Next) (line : List ℕ) (r : Step) : Type 0 where
+-- the line that a step gives, and where it leaves the run: `n` is the step
+pub record SetLine (s : List ℕ) (n : Next) (line : List ℕ) (r : Step) : Type 0 where
   pub text : line ≡ n.line
   pub then : r ≡ step_of n.more n.run
   pub ready : IfMore r (Ready s)
 
-abbrev pub Opened : List ℕ → List ℕ → Step → Type 0
-Opened s line r = WroteLine s (first s) line r
+abbrev pub SetFirst : List ℕ → List ℕ → Step → Type 0
+SetFirst s line r = SetLine s (first s) line r
+
+-- the row that a step wrote its line into, and where it leaves the run
+pub record WroteLine (s old new : List ℕ) (n : Next) (r : Part) : Type 0 where
+  pub row : Put old new 0 n.line r.end
+  pub then : r.left ≡ step_of n.more n.run
+  pub ready : IfMore r.left (Ready s)
+
+abbrev pub Opened : List ℕ → List ℕ → List ℕ → Part → Type 0
+Opened s old new r = WroteLine s old new (first s) r
 
 pub record Stepped (s : List ℕ) (run : Run) (line : List ℕ) (r : Step) : Type 0 where
-  pub wrote : WroteLine s (next s run) line r
+  pub wrote : SetLine s (next s run) line r
   pub ahead : IfMore r (λ then. run.at < then.at)
 
 abbrev pub settled : List ℕ → Result SetupLines BadLine → Next

@@ -1,6 +1,6 @@
 // Running a script. A run stands at the start of a line; a step reads that line, runs its event and writes one line of the listing.
 ghost use Rattle.std.specs.Prelude.{◌≡◌, ◌≤◌, length, nat_lt};
-ghost use Rattle.listing.specs.Run.{Ready, Stepped, Opened, nowhere, step_of};
+ghost use Rattle.listing.specs.Run.{Ready, SetFirst, Opened, Stepped, nowhere, step_of};
 ghost use Rattle.listing.specs.Fitting.{Filled};
 
 use rules::Bench;
@@ -57,9 +57,9 @@ fn leave(src: &[u8], run: Run) -> Step
 }
 
 // The first line of the listing: the setup lines are read, and the setup is judged.
-#[tactic(auto, using(crate::proofs::Setups::first_long, crate::proofs::Setups::first_bad, crate::proofs::Setups::first_refused, crate::proofs::Setups::opened_on, crate::proofs::Setups::opened_last))]
-pub fn first_line(src: &[u8], line: &mut Line) -> Step
-    ensures { Opened src.now line.new result }
+#[tactic(auto, using(crate::proofs::Setups::first_long, crate::proofs::Setups::first_bad, crate::proofs::Setups::first_refused, crate::proofs::Setups::set_first_on, crate::proofs::Setups::set_first_last))]
+pub(crate) fn set_first(src: &[u8], line: &mut Line) -> Step
+    ensures { SetFirst src.now line.new result }
 {
     if 65536 < src.len() {
         line.clear();
@@ -88,6 +88,19 @@ pub fn first_line(src: &[u8], line: &mut Line) -> Step
         bench,
     };
     leave(src, run)
+}
+
+// The same, put at the start of a lent row. The rest of the row stays.
+pub fn first_line(src: &[u8], out: &mut [u8]) -> Part
+    requires { 2048 ≤ length out.old }
+    ensures { Opened src.now out.old out.new result }
+{
+    let mut line = Line::new();
+    let left = set_first(src, &mut line);
+    // the place after the line: at most 2,048, so the row has room for it
+    let end = line.len();
+    line.copy_to(out, 0);
+    Part { end, left }
 }
 
 // The line of the listing for the script's line at which the run stands. The run ends with a bad line, and with the script.

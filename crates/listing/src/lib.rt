@@ -21,7 +21,7 @@ pub fn write(src: &[u8], out: &mut [u8]) -> Written
     ensures { Wrote src.now out.old out.new result }
 {
     let mut line = Line::new();
-    let first = inner::first_line(src, &mut line);
+    let first = inner::set_first(src, &mut line);
     if out.len() < line.len() {
         return Written {
             len: 0,

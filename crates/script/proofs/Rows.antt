@@ -24,16 +24,17 @@ pub record Wrote (old new : Option (List ℕ)) (s : List ℕ) (left : Step) : Ty
   pub whole : text ++ joined (rest_of s left) ≡ listing wrapped s
 
 -- the first line and what is left after it; a row of lines and what is left after it
-first_row : {s line : List ℕ} {r : Step} → Opened s line r → line ++ joined (rest_of s r) ≡ listing wrapped s
+first_row : {s d e : List ℕ} {r : Part} → Opened s d e r → take r.end e ++ joined (rest_of s r.left) ≡ listing wrapped s
 unfolding listing joined
-first_row {s} o = rw (o.text, o.then) (sym (ap joined (first_lines s)))
+first_row {s} o = rw (put_start o.row, o.then) (sym (ap joined (first_lines s)))
 
 more_row : {s d e : List ℕ} {run : Run} {r : Part} → run.at < length s → Filled s run d e 0 r
     → take r.end e ++ joined (rest_of s r.left) ≡ joined (rest s run)
 more_row {s} {d} {run = run} h f = rw (put_start f.row, f.then) (sym (fill_cuts (length d - 0) s run h).whole)
 
-pub wrote_first : {a b : Option (List ℕ)} {s line : List ℕ} {r : Step} → Opened s line r → Appends a b line → Wrote a b s r
-wrote_first {line = line} o g = record { text = line; grown = g; whole = first_row o }
+pub wrote_first :
+    {a b : Option (List ℕ)} {s d e : List ℕ} {r : Part} → Opened s d e r → Appends a b (take r.end e) → Wrote a b s r.left
+wrote_first {e = e} {r = r} o g = record { text = take r.end e; grown = g; whole = first_row o }
 
 pub wrote_more :
     {a b c : Option (List ℕ)} {s d e : List ℕ} {run : Run} {r : Part} → Wrote a b s (More run) → run.at < length s
@@ -83,7 +84,7 @@ start_after {a} {b} {c} t p g = record {
 
 -- so what was written when a row is written in part is a beginning of the listing
 pub start_first :
-    {a b : Option (List ℕ)} {s line : List ℕ} {r : Step} → Opened s line r → AppendsStart a b line → AppendsStart a b (listing wrapped s)
+    {a b : Option (List ℕ)} {s d e : List ℕ} {r : Part} → Opened s d e r → AppendsStart a b (take r.end e) → AppendsStart a b (listing wrapped s)
 start_first o g = start_within _ g (first_row o)
 
 pub start_more :

@@ -9,7 +9,6 @@ ghost use Rattle.script.specs.Failed.{AppendsStart, ConsumesStart};
 
 use listing::inner::Step;
 use std::io::{self, Read, Write};
-use writer::inner::Line;
 
 // Reads until buf is full or the input ends: how many bytes it put at the start of buf. Where a read fails, what is gone from the
 // input stands there.
@@ -57,14 +56,12 @@ fn write_listing<W: Write>(output: &mut W, src: &[u8]) -> io::Result<()>
     ensures err { OnErr result
         (AppendsStart (W.contents output.old) (W.contents output.new) (listing wrapped src.now)) }
 {
-    let mut line = Line::new();
-    let mut left = listing::inner::first_line(src, &mut line);
-    write_full(output, line.as_bytes())?;
     let mut row = [0u8; 16384];
-    while let Step::More(run) = left {
-        let part = listing::inner::fill(src, run, &mut row, 0);
+    let mut part = listing::inner::first_line(src, &mut row);
+    write_full(output, &row[..part.end])?;
+    while let Step::More(run) = part.left {
+        part = listing::inner::fill(src, run, &mut row, 0);
         write_full(output, &row[..part.end])?;
-        left = part.left;
     }
     Ok(())
 }

@@ -4,7 +4,7 @@ use Rattle.listing.proofs.Fitting.{wrote_none, wrote_first, wrote_part, wrote_wh
 use Rattle.listing.proofs.write.Goals as goal
 
 pub returns-then-out-len : goal.returns-then-out-len
-returns-then-out-len c = wrote_none _ _ _ _ c.first_line-first.ensures (omega (arith, c.len.ensures.value, c.if-out-len.true))
+returns-then-out-len c = wrote_none _ _ _ _ c.set_first-first.ensures (omega (arith, c.len.ensures.value, c.if-out-len.true))
 
 pub returns-in-Over : goal.returns-in-Over
 returns-in-Over c =
