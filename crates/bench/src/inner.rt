@@ -3,7 +3,7 @@
 // would stand beside each, and be copied into and out of at each event.
 #![tactic(auto, unfolding(rules::specs::Events::act))]
 
-ghost use Rattle.std.specs.Prelude.{◌≡◌, length};
+ghost use Rattle.std.specs.Prelude.{◌≡◌, true, length};
 ghost use Rattle.rules.specs.Numbers.{wrapped};
 ghost use Rattle.rules.specs.Parts.{fresh_bench};
 ghost use Rattle.rules.specs.Malformed.{same_setups, formed_bench};
@@ -36,7 +36,8 @@ fn one_setup(b: &Bench) -> bool
 // Not malformed, for a setup that is admitted: the four parts have it, and each is as it should be.
 pub(crate) fn formed(b: &Bench) -> bool
     requires { FitSetup b.now.sender.setup }
-    ensures { result ≡ formed_bench wrapped b.now.sender.setup b.now }
+    ensures is { result ≡ formed_bench wrapped b.now.sender.setup b.now }
+    ensures long { result ≡ true → (length b.now.datas.packets ≡ 32) × (length b.now.acks.packets ≡ 32) }
 {
     one_setup(b)
         && sender::inner::formed(&b.sender)

@@ -1,7 +1,7 @@
 // The channel's work, in place, on a channel that is not malformed, and the test of whether it is.
 // What an admitted setup and a fit state have stays a `requires`: both are public and by value, others too, so a type that holds it
 // would stand beside each, and be copied into and out of at each event.
-ghost use Rattle.std.specs.Prelude.{◌≡◌, ◌+◌, ◌<◌, Ok, Err};
+ghost use Rattle.std.specs.Prelude.{◌≡◌, true, ◌+◌, ◌<◌, length, Ok, Err};
 ghost use Rattle.rules.specs.Refusals.{refusal};
 ghost use Rattle.rules.specs.Parts.{kind, fresh_channel};
 ghost use Rattle.rules.specs.Malformed.{every, formed_aged, formed_channel};
@@ -71,17 +71,17 @@ pub fn tick<P: Packet>(c: &mut Channel<P>)
     requires { FitChannel (kind P.none P.is_none) c.old }
     ensures { c.new ≡ ticked_channel (kind P.none P.is_none) c.old.setup.life c.old }
 {
-    let old = *c;
-    *c = empty(old.setup);
-    for p in &old.packets[..old.count as usize] {
-        if p.age < old.setup.life {
-            c.packets[c.count as usize] = Aged {
+    let mut aged = empty(c.setup);
+    for p in &c.packets[..c.count as usize] {
+        if p.age < c.setup.life {
+            aged.packets[aged.count as usize] = Aged {
                 age: p.age + 1,
                 ..*p
             };
-            c.count += 1;
+            aged.count += 1;
         }
     }
+    *c = aged;
 }
 
 // The place j, where the channel holds a packet there.
@@ -120,7 +120,8 @@ fn remove<P: Packet>(c: &mut Channel<P>, j: usize)
 // Not malformed, for a setup that is admitted.
 #[tactic(auto, using(rules::proofs::Channels::formed_many, crate::proofs::Places::formed_by_parts))]
 pub fn formed<P: Packet>(c: &Channel<P>) -> bool
-    ensures { result ≡ formed_channel (kind P.none P.is_none) (formed_aged (P.right c.now.setup) c.now.setup.life) c.now }
+    ensures is { result ≡ formed_channel (kind P.none P.is_none) (formed_aged (P.right c.now.setup) c.now.setup.life) c.now }
+    ensures long { result ≡ true → length c.now.packets ≡ 32 }
 {
     if 32 < c.count {
         return false;

@@ -1,7 +1,8 @@
 -- Laws of sizes and of wrapped sums and differences, over any range: what 32 bits wrap, a range of 2 to the power b wraps too.
-use Rattle.std.proofs.Common.{◌≡◌, ℕ, true, ◌+◌, ◌-◌, ◌*◌, ◌%◌, ◌^◌, ◌<◌, ◌≤◌, suc, lt_of_lt_of_le, mod-lt, sym, ap, ◌∙◌, one-mul, arith, pow_pos, pow_mono, pow-add, shl_exact}
+use Rattle.std.proofs.Common.{◌≡◌, ℕ, true, min, refl, ◌+◌, ◌-◌, ◌*◌, ◌%◌, ◌^◌, ◌<◌, ◌≤◌, suc, lt_of_lt_of_le, mod-lt, sym, ap, ◌∙◌, one-mul, arith, pow_pos, pow_mono, pow-add, shl_exact}
 use Rattle.std.proofs.Math.Nat.{mul-add-mod_self_right, suc-mul, mod-mod_of_dvd, dvd-mul_left}
 use borrow.Author.Tests.{lt-ltb}
+use native.Mathlib.Decide.{dec_le}
 use Rattle.std.specs.Prelude.{nat_lt}
 use Rattle.rules.specs.Numbers.{dist}
 
@@ -29,3 +30,13 @@ rem_fits x b h = lt_of_lt_of_le (mod-lt x (pow_pos b)) (pow_mono h)
 -- a number of 32 bits is below any larger power
 pub below_wide : (x b : ℕ) → x < 2 ^ 32 → 32 ≤ b → true ≡ nat_lt x (2 ^ b)
 below_wide x b h k = sym (lt-ltb x (2 ^ b) (lt_of_lt_of_le h (pow_mono k)))
+
+-- so the power may stop at 32
+pub below_capped : (x b k : ℕ) → x < 2 ^ 32 → k ≡ min b 32 → nat_lt x (1 * 2 ^ k % 2 ^ 64) ≡ nat_lt x (2 ^ b)
+below_capped x b k h e = rw (bit_at k (omega (arith, e))) (go (dec_le b 32))
+  where
+    go : Dec (b ≤ 32) → nat_lt x (2 ^ k) ≡ nat_lt x (2 ^ b)
+    go (yes le) = let q : k ≡ b = omega (arith, e) in rw q refl
+    go (no gt) =
+        let q : k ≡ 32 = omega (arith, e) in
+        rw q (sym (below_wide x 32 h (omega arith)) ∙ below_wide x b h (omega arith))

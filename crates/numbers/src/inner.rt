@@ -52,15 +52,13 @@ impl Range {
     }
 }
 
-// The number is below 2 to the power `bits`, whatever the bits: from 32 on each number is.
-#[tactic(auto, using(crate::proofs::Laws::below_wide))]
+// The number is below 2 to the power `bits`, whatever the bits: from 32 on each number is. No branch, so that a loop over packets
+// makes the power once.
+#[tactic(auto, using(crate::proofs::Laws::below_capped))]
 pub fn in_bits(bits: u32, x: u32) -> bool
     ensures { result ≡ nat_lt x (2 ^ bits) }
 {
-    if 32 <= bits {
-        return true;
-    }
-    (x as u64) < 1u64 << bits
+    (x as u64) < 1u64 << bits.min(32)
 }
 
 // The slots of a window: a number's slot is its remainder.

@@ -2,14 +2,13 @@
 // back as it was.
 #![tactic(auto)]
 
-ghost use Rattle.std.specs.Prelude.{◌≡◌, length, IfOk};
+ghost use Rattle.std.specs.Prelude.{◌≡◌, false, length};
 ghost use Rattle.rules.specs.Numbers.{wrapped};
 ghost use Rattle.rules.specs.Rows.{laid};
 ghost use Rattle.rules.specs.Parts.{fresh_receiver};
 ghost use Rattle.rules.specs.Malformed.{malformed_receiver};
 ghost use Rattle.rules.specs.Fit.{FitReceiver};
-ghost use Rattle.rules.specs.Events.{refused, done};
-ghost use Rattle.rules.specs.Operations.{begun, may_work, receiver_data, receiver_room, receiver_ack, receiver_tick, returned, counted, made};
+ghost use Rattle.rules.specs.Operations.{begun, receiver_data, receiver_room, receiver_ack, receiver_tick, returned, counted, made};
 
 use numbers::packet::Packet;
 use rules::{BareAck, BareData, Receiver, Refusal, Refused, Setup};
@@ -33,22 +32,16 @@ pub fn fresh(s: Setup) -> Result<Receiver, Refused<Receiver>>
 pub fn malformed(r: Receiver) -> bool
     ensures { result ≡ malformed_receiver wrapped r }
 {
-    !(setup::admitted(r.setup) && inner::formed(&r))
+    is_malformed(&r)
 }
 
-// The receiver, if it is not malformed. `fresh`, `malformed` and this stand in each part: an impl of
-// a trait would have to stand below, with the part's type, and its test could not.
-fn checked(r: Receiver) -> Result<Receiver, Refused<Receiver>>
-    ensures gives { result ≡ returned (may_work (malformed_receiver wrapped r) (refused r) (done r)) }
-    ensures fit { IfOk result (λ next. FitReceiver next) }
+// The same of a receiver that stays where it is; one that is not malformed is fit for the work. `fresh`, `malformed` and
+// this stand in each part: an impl of a trait would have to stand below, with the part's type, and its test could not.
+fn is_malformed(r: &Receiver) -> bool
+    ensures is { result ≡ malformed_receiver wrapped r.now }
+    ensures fit { result ≡ false → FitReceiver r.now }
 {
-    if malformed(r) {
-        return Err(Refused {
-            why: Refusal::Malformed,
-            state: r,
-        });
-    }
-    Ok(r)
+    !(setup::admitted(r.setup) && inner::formed(r))
 }
 
 // A data packet arrives; the units that it lets out are written to `row` from its start, and the result counts them. `ShortRow`
@@ -64,43 +57,54 @@ pub fn data(
     ensures gives { result ≡ counted (receiver_data r p (length row.old)) }
     ensures lent { row.new ≡ laid (receiver_data r p (length row.old)).units row.old }
 {
-    let mut next = checked(r)?;
-    if row.len() < next.setup.window as usize {
-        return Err(Refused {
-            why: Refusal::ShortRow,
-            state: next,
-        });
-    }
-    if !p.in_range(next.setup) {
-        return Err(Refused {
-            why: Refusal::OutOfRange,
-            state: next,
-        });
-    }
-    rules::given_with(inner::data(&mut next, p, row), next)
+    let mut next = r;
+    let counted = if is_malformed(&next) {
+        Err(Refusal::Malformed)
+    } else if row.len() < next.setup.window as usize {
+        Err(Refusal::ShortRow)
+    } else if !p.in_range(next.setup) {
+        Err(Refusal::OutOfRange)
+    } else {
+        inner::data(&mut next, p, row)
+    };
+    rules::given_with(counted, &next)
 }
 
 // The window grows by 1: `WideOpen` where it is RW already.
 pub fn room(r: Receiver) -> Result<Receiver, Refused<Receiver>>
     ensures { result ≡ returned (receiver_room r) }
 {
-    let mut next = checked(r)?;
-    rules::given(inner::room(&mut next), next)
+    let mut next = r;
+    let done = if is_malformed(&next) {
+        Err(Refusal::Malformed)
+    } else {
+        inner::room(&mut next)
+    };
+    rules::given(done, &next)
 }
 
 // The acknowledgement to send now.
 pub fn ack(r: Receiver) -> Result<(BareAck, Receiver), Refused<Receiver>>
     ensures { result ≡ made (receiver_ack r) }
 {
-    let same = checked(r)?;
-    Ok((inner::ack(&same), same))
+    let made = if is_malformed(&r) {
+        Err(Refusal::Malformed)
+    } else {
+        Ok(inner::ack(&r))
+    };
+    rules::given_with(made, &r)
 }
 
 // The clock moves by 1, and recent becomes one older.
 pub fn tick(r: Receiver) -> Result<Receiver, Refused<Receiver>>
     ensures { result ≡ returned (receiver_tick r) }
 {
-    let mut next = checked(r)?;
-    inner::tick(&mut next);
-    Ok(next)
+    let mut next = r;
+    let done = if is_malformed(&next) {
+        Err(Refusal::Malformed)
+    } else {
+        inner::tick(&mut next);
+        Ok(())
+    };
+    rules::given(done, &next)
 }

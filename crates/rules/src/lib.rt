@@ -144,33 +144,38 @@ impl From<Refusal> for u32 {
     }
 }
 
-// A refusal gives back the state that it leaves.
+// A refusal gives back the state that it leaves. The state stands first, so that it has one place in a result, `Ok` or `Err`: to make
+// such a result, or to take it apart, is then one block copy, where else each field is moved by itself.
 #[derive(Clone, Copy)]
 pub struct Refused<S> {
-    pub why: Refusal,
     pub state: S,
+    pub why: Refusal,
 }
 
-// What an operation gives that worked on a state in place: the state, or the refusal with it.
-pub fn given<S: Copy>(done: Result<(), Refusal>, state: S) -> Result<S, Refused<S>>
-    ensures { result ≡ left done state }
+// What an operation gives that worked on a state in place: the state, or the refusal with it. By reference, so that the state is copied
+// once, into the result.
+pub fn given<S: Copy>(done: Result<(), Refusal>, state: &S) -> Result<S, Refused<S>>
+    ensures { result ≡ left done state.now }
 {
     match done {
-        Ok(()) => Ok(state),
-        Err(why) => Err(Refused { why, state }),
+        Ok(()) => Ok(*state),
+        Err(why) => Err(Refused { why, state: *state }),
     }
 }
 
-// The same of one that makes a packet, or counts units. Two functions: in one, who makes nothing would take a pair apart.
+// The same of one that makes a packet, or counts units. Two functions: in one, who makes nothing would take a pair apart. Here the
+// state has two places in the result, beside the packet or the count and alone, so the function is not inlined: else each field is moved
+// by itself.
+#[inline(never)]
 pub fn given_with<T: Copy, S: Copy>(
     made: Result<T, Refusal>,
-    state: S,
+    state: &S,
 ) -> Result<(T, S), Refused<S>>
-    ensures { result ≡ left_with made state }
+    ensures { result ≡ left_with made state.now }
 {
     match made {
-        Ok(x) => Ok((x, state)),
-        Err(why) => Err(Refused { why, state }),
+        Ok(x) => Ok((x, *state)),
+        Err(why) => Err(Refused { why, state: *state }),
     }
 }
 

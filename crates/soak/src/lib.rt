@@ -44,7 +44,8 @@ fn run<W: Way>(seed: u64, events: u64) -> u64
     sum
 }
 
-// Two functions of one run, as C calls both. Each event goes through the bench's public operation, which tests the bench first.
+// Two functions of one run, as C calls both. Each event goes through the bench's public operation, which tests the bench first: the
+// contract of `Tested` is of any bench, so it has to. That this run takes that way no contract says, since both give one number.
 pub fn checked(seed: u64, events: u64) -> u64
     ensures { result ≡ soaked seed events }
 {

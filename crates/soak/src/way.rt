@@ -17,7 +17,10 @@ pub trait Way {
 pub struct Tested;
 
 impl Way for Tested {
-    fn apply(b: &mut Bench, e: Event, row: &mut [u64]) -> Result<usize, Refusal> {
+    // On any bench, a malformed one too, so the bench has to be tested first.
+    fn apply(b: &mut Bench, e: Event, row: &mut [u64]) -> Result<usize, Refusal>
+        ensures { Counts (step wrapped (event_of e (length row.old)) b.old) result b.new row.old row.new }
+    {
         match bench::apply(*b, e, row) {
             Ok((count, next)) => {
                 *b = next;

@@ -18,14 +18,19 @@ pub formed-requires-then-one_setup : goal.formed-requires-then-one_setup
 formed-requires-then-one_setup c =
     let s = one_setup c.args.b.now (sym c.one_setup.ensures ∙ c.if-one_setup.true) in subst FitSetup (sym s.0) c.requires
 
-pub returns-then-one_setup : goal.returns-then-one_setup
+pub returns-then-one_setup-clause-is : goal.returns-then-one_setup-clause-is
 unfolding formed_bench ◌also◌
-returns-then-one_setup c =
+returns-then-one_setup-clause-is c =
     let one = sym c.one_setup.ensures ∙ c.if-one_setup.true in
     let s = one_setup c.args.b.now one in
     rw
-    (one, c.formed.ensures, c.formed-then-one_setup.ensures, c.formed-then-one_setup-2.ensures, c.formed-then-one_setup-3.ensures, s.0, s.1, s.2)
+    (one, c.formed.ensures, c.formed-then-one_setup.ensures, c.formed-then-one_setup-2.ensures.is, c.formed-then-one_setup-3.ensures.is, s.0, s.1, s.2)
 
-pub returns-else-one_setup : goal.returns-else-one_setup
+pub returns-else-one_setup-clause-is : goal.returns-else-one_setup-clause-is
 unfolding formed_bench ◌also◌
-returns-else-one_setup c = rw (sym c.one_setup.ensures ∙ c.if-one_setup.false) c.if-one_setup.false
+returns-else-one_setup-clause-is c = rw (sym c.one_setup.ensures ∙ c.if-one_setup.false) c.if-one_setup.false
+
+pub returns-then-one_setup-clause-long : goal.returns-then-one_setup-clause-long
+unfolding ◌also◌
+returns-then-one_setup-clause-long c e =
+    let a = both e in (c.formed-then-one_setup-2.ensures.long (both a.0).1, c.formed-then-one_setup-3.ensures.long a.1)
