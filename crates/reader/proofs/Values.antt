@@ -16,7 +16,7 @@ either_bad false true e = refl
 either_bad false false e = e
 
 -- a number that is too large stays so
-value_large : (t : List ℕ) (v : ℕ) → 2 ^ 64 ≤ v → value_on v t ≡ None
+pub value_large : (t : List ℕ) (v : ℕ) → 2 ^ 64 ≤ v → value_on v t ≡ None
 unfolding value_on
 value_large [] v h = rw (le-ltb v (2 ^ 64) h)
 value_large (b ∷ t) v h = either_bad (nat_lt b 48) (nat_lt 57 b) (value_large t (v * 10 + (b - 48)) (omega arith))

@@ -1,5 +1,5 @@
 -- `formed` meets its contract: each part is tested by its own setup, and only where that is the bench's.
-use Rattle.std.proofs.Common.{◌≡◌, true, sym, ◌∙◌, subst}
+use Rattle.std.proofs.Common.{◌≡◌, true, sym, ◌∙◌, subst, arith}
 use Rattle.rules.specs.declared.Bench.{Bench}
 use Rattle.rules.specs.Setups.{◌also◌}
 use Rattle.rules.specs.Malformed.{same_setups, formed_bench}
@@ -25,12 +25,11 @@ returns-then-one_setup-clause-is c =
     let s = one_setup c.args.b.now one in
     rw
     (one, c.formed.ensures, c.formed-then-one_setup.ensures, c.formed-then-one_setup-2.ensures.is, c.formed-then-one_setup-3.ensures.is, s.0, s.1, s.2)
+    (grind arith)
 
 pub returns-else-one_setup-clause-is : goal.returns-else-one_setup-clause-is
 unfolding formed_bench ◌also◌
 returns-else-one_setup-clause-is c = rw (sym c.one_setup.ensures ∙ c.if-one_setup.false) c.if-one_setup.false
 
 pub returns-then-one_setup-clause-long : goal.returns-then-one_setup-clause-long
-unfolding ◌also◌
-returns-then-one_setup-clause-long c e =
-    let a = both e in (c.formed-then-one_setup-2.ensures.long (both a.0).1, c.formed-then-one_setup-3.ensures.long a.1)
+returns-then-one_setup-clause-long c = grind (arith, c.formed-then-one_setup-2.ensures.long, c.formed-then-one_setup-3.ensures.long)
